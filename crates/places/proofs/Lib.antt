@@ -1,0 +1,4 @@
+pub mod Tallies
+pub mod Places
+pub mod Stretches
+pub mod Formulas
