@@ -12,7 +12,7 @@ use native.Mathlib.Omega.{arith}
 use lib.Arith.{digits-div, digits-lt, digits-mod}
 use Rattle.std.proofs.shelf.Tests.{cases-lt}
 use Rattle.places.specs.Line.{Plan, Laid, place}
-use Rattle.places.specs.Limit.{tally, within, held, Longest}
+use Rattle.places.specs.Limit.{tally, within, held, Longest, wideLimit}
 use Rattle.places.proofs.Tallies.{Apart, tally-more, few-within, within-true, within-from}
 use Rattle.places.proofs.Places.{apart, first, part-lt}
 use Rattle.places.proofs.Stretches.{Starts, held-few, held-more, held-longer, found-longest}
@@ -34,7 +34,7 @@ module _ {p : Plan} (laid : Laid p) where
         held-more laid 0 0 (f (suc a)) (o .0) (o .1) (o .2 ∙ sym (zero-add (f (suc a)))))
 
   -- so they bound the longest stretch, if they are as close together as octets can be
-  longest-by : (f : ℕ → ℕ) (e : ℕ) → ((b : ℕ) → b ≤ e → Octet (f b)) → ((b : ℕ) → b < e → f b < f (suc b)) → Starts laid e (f e) → Longest p e (f e)
+  longest-by : (f : ℕ → ℕ) (e : ℕ) → ((b : ℕ) → b ≤ e → Octet (f b)) → ((b : ℕ) → b < e → f b < f (suc b)) → Starts p e (f e) → Longest p e (f e)
   longest-by f e octets rising starts =
       let at-0 : place p 0 0 ≡ 0 = first laid 0 ∙ zero-mul (p .word) in
       found-longest laid e (f e) 0 starts (rw at-0 (climbs f e e octets rising (omega arith)))
@@ -50,8 +50,8 @@ module _ {p : Plan} (laid : Laid p) where
       longest-by (λ a. a) e (λ b h. (b, omega arith, side-by-side off b)) (λ b h. omega arith) (λ n l. held-few laid 0 (place p 0 n) e)
 
   -- Where M ≥ q, all octets of a branch stand before those of the next: the a-th of them stands at this place.
-  abbrev pub order : ℕ → ℕ
-  order a = (a / p .parts) * (p .step * p .block + 1) + (a % p .parts) * p .block
+  abbrev order : ℕ → ℕ
+  order a = wideLimit p a
 
   -- which octet that is, and which it is of all
   rank : ℕ → ℕ
@@ -132,7 +132,7 @@ module _ {p : Plan} (laid : Laid p) where
     rank-apart m k l h e = apart laid 0 (p .word) m k l h (ranked m l ∙ ap order e ∙ sym (ranked k h))
 
     -- the octets in a stretch as long as the way from the first to the e-th are e of them in a row, at most
-    starts : (e : ℕ) → Starts laid e (order e)
+    starts : (e : ℕ) → Starts p e (order e)
     starts e n l =
         let all = few-within rank (p .word) (rank n) e rank-apart in
         omega (arith, all, inside)
@@ -161,5 +161,5 @@ module _ {p : Plan} (laid : Laid p) where
     longest e few =
         longest-by order e (λ b h. octet-ranked some b (omega arith)) (λ b h. order-less b (suc b) (omega arith)) (starts e)
 
-  pub wide-steps : (e : ℕ) → p .parts ≤ p .step → e < p .word → Longest p e (order e)
+  pub wide-steps : (e : ℕ) → p .parts ≤ p .step → e < p .word → Longest p e (wideLimit p e)
   wide-steps e wide few = longest wide (parts-pos (omega arith)) e few

@@ -1,4 +1,5 @@
 pub mod Tallies
 pub mod Places
 pub mod Stretches
+pub mod Search
 pub mod Formulas

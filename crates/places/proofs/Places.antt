@@ -8,7 +8,7 @@ use native.Mathlib.Nat.{
 }
 use native.Mathlib.Omega.{arith}
 use lib.Arith.{digits-div, digits-lt, digits-mod}
-use Rattle.places.specs.Line.{Plan, Laid, place, spot}
+use Rattle.places.specs.Line.{Plan, Laid, Lies, place}
 use Rattle.places.proofs.Tallies.{Apart}
 
 module _ {p : Plan} (laid : Laid p) where
@@ -90,3 +90,25 @@ module _ {p : Plan} (laid : Laid p) where
 
   pub there-high : (n : ℕ) → n < p .word → place p 0 n / p .block < p .step * (place p 0 n % p .block) + p .parts
   there-high n h = rw (branch-of 0 n, row-of 0 n) (omega (arith, zero-mul (p .parts), part-lt n h))
+
+  -- the last octet of a word is octet I − 1 of its block q − 1
+  at-last : 0 < p .parts → place p 0 (p .word - 1) + 1 ≡ p .reach
+  unfolding place
+  at-last some =
+      let k = p .parts - 1 in
+      let j = p .block - 1 in
+      let j-lt : j < p .block = omega (arith, laid .some) in
+      let whole : k * p .block + p .block ≡ p .parts * p .block = sym (suc-mul k (p .block)) ∙ ap (λ x. x * p .block) (omega arith) in
+      let n : p .word - 1 ≡ k * p .block + j = omega (arith, laid .whole, laid .some, whole) in
+      let turned : p .step * j * p .block ≡ p .step * p .block * j = simp (mul-assoc, mul-comm j (p .block)) in
+      rw (n, digits-div k j-lt, digits-mod k j-lt)
+      (omega (arith, laid .spans, laid .whole, laid .some, whole, turned, add-mul (0 * p .parts + k) (p .step * j) (p .block),
+        add-mul (0 * p .parts) k (p .block), ap (λ x. x * p .block) (zero-mul (p .parts)), zero-mul (p .block)))
+
+  pub lies : 0 < p .parts → Lies p
+  lies some = record {
+    alike = moved;
+    between = λ c n l. (omega (arith, moved c n), omega (arith, moved c n, reached n l));
+    first = first;
+    last = λ c. omega (arith, moved c (p .word - 1), at-last some);
+  }

@@ -16,6 +16,10 @@ use Rattle.places.proofs.Tallies.{
 }
 use Rattle.places.proofs.Places.{apart, moved, first, reached}
 
+-- no stretch of L places that begins with an octet of word 0 holds more than e of them
+abbrev pub Starts : Plan → (e L : ℕ) → Type 0
+Starts p e L = (n : ℕ) → n < p .word → held p 0 (place p 0 n) L ≤ e
+
 module _ {p : Plan} (laid : Laid p) where
   pub held-none : (c a : ℕ) → held p c a 0 ≡ 0
   unfolding held
@@ -64,12 +68,8 @@ module _ {p : Plan} (laid : Laid p) where
       tally-all (λ n. within 0 (p .reach) (place p 0 n)) (p .word)
       (λ n l. within-from 0 (p .reach) (place p 0 n) (omega arith) (omega (arith, reached laid n l)))
 
-  -- no stretch of L places that begins with an octet of word 0 holds more than e of them
-  abbrev pub Starts : (e L : ℕ) → Type 0
-  Starts e L = (n : ℕ) → n < p .word → held p 0 (place p 0 n) L ≤ e
-
-  -- then no stretch of L places does, of any word
-  pub nothing-missed : (e L : ℕ) → Starts e L → Spreads p e L
+  -- where those that begin with an octet of word 0 hold at most e, all stretches of L places do, of every word
+  pub nothing-missed : (e L : ℕ) → Starts p e L → Spreads p e L
   nothing-missed e zero starts c a = omega (arith, held-none c a)
   nothing-missed e (suc L) starts c a =
       go (nothing-missed e L (λ n l. omega (arith, starts n l, held-longer 0 (place p 0 n) L (suc L) (omega arith))) c (suc a))
@@ -90,7 +90,7 @@ module _ {p : Plan} (laid : Laid p) where
       go rest (inr free) = rw (shifted free) rest
 
   -- such an L is below the reach, where e is fewer than a word has
-  pub below-reach : (e L : ℕ) → e < p .word → Starts e L → L < p .reach
+  pub below-reach : (e L : ℕ) → e < p .word → Starts p e L → L < p .reach
   below-reach e L few starts = go (cases-lt L (p .reach))
     where
       go : (L < p .reach) ⊎ (p .reach ≤ L) → L < p .reach
@@ -101,7 +101,7 @@ module _ {p : Plan} (laid : Laid p) where
           absurd (omega (arith, whole, held-longer 0 0 (p .reach) L h, held-all))
 
   -- L is the longest stretch once one of L + 1 places holds too many
-  pub found-longest : (e L i : ℕ) → Starts e L → e < held p 0 (place p 0 i) (suc L) → Longest p e L
+  pub found-longest : (e L i : ℕ) → Starts p e L → e < held p 0 (place p 0 i) (suc L) → Longest p e L
   found-longest e L i starts over = record {
     spreads = nothing-missed e L starts;
     largest = λ K spreads. go K spreads (cases-lt L K);

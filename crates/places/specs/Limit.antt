@@ -1,7 +1,7 @@
 -- How many octets of a word a stretch of the line holds, and the longest burst that a word rides out. Assumes nothing.
 use mathlib.Core.Path.{_≡_}
 use mathlib.Core.Bool.{Bool, _&&_, cond}
-use Prim.Native.Nat.{ℕ, zero, suc, _+_, _*_, _≤_, _<_}
+use Prim.Native.Nat.{ℕ, zero, suc, _+_, _*_, _/_, _%_, _≤_, _<_}
 use lib.Dec.{leb, ltb}
 use Rattle.places.specs.Line.{Plan, place}
 
@@ -35,3 +35,8 @@ BurstLimit p B = Longest p (p .repairs) B
 abbrev pub Sharp : Plan → (e B : ℕ) → Type 0
 Sharp p e B =
     (c : ℕ) → (a : ℕ) × (c * p .word ≤ a) × (a + B < c * p .word + p .reach) × (e < held p c a (B + 1))
+
+-- what the longest stretch comes to where each branch waits at least a whole word longer than the one before it (M ≥ q):
+-- f×(M×I + 1) + r×I, f the quotient and r the remainder of e by q
+abbrev pub wideLimit : Plan → (e : ℕ) → ℕ
+wideLimit p e = (e / p .parts) * (p .step * p .block + 1) + (e % p .parts) * p .block

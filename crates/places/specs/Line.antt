@@ -39,3 +39,11 @@ pub record Laid (p : Plan) : Type 0 where
   pub some : 0 < p .block
   pub whole : p .parts * p .block ≡ p .word
   pub spans : p .reach ≡ p .step * p .block * (p .block - 1) + p .word
+
+-- How words lie on the line: word c as word 0 does, c×N places further on. Its octets stand on the Z places from c×N on,
+-- the first octet on the first of them and the last on the last.
+pub record Lies (p : Plan) : Type 0 where
+  pub alike : (c n : ℕ) → place p c n ≡ c * p .word + place p 0 n
+  pub between : (c n : ℕ) → n < p .word → (c * p .word ≤ place p c n) × (place p c n < c * p .word + p .reach)
+  pub first : (c : ℕ) → place p c 0 ≡ c * p .word
+  pub last : (c : ℕ) → place p c (p .word - 1) + 1 ≡ c * p .word + p .reach
