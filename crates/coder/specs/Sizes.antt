@@ -27,15 +27,15 @@ abbrev pub if-allowed : Bool → Parameters → Result Parameters ℕ
 if-allowed allowed p = cond allowed (Ok p) (Err 1)
 
 -- Reed-Solomon: an even number R of check octets, at most 16; half as many octets can be repaired
-abbrev pub reedSolomon : (K R : ℕ) → Result Parameters ℕ
-reedSolomon K R =
+abbrev pub reedSolomonSizes : (K R : ℕ) → Result Parameters ℕ
+reedSolomonSizes K R =
     if-allowed (leb 3 K && leb (K + R) 255 && leb R 16 && eqb (R % 2) 0) (record { frame = K; word = K + R; repairs = R / 2 })
 
 -- threefold: the frame three times over, one octet can be repaired
-abbrev pub threefold : (K R : ℕ) → Result Parameters ℕ
-threefold K R = if-allowed (leb 3 K && leb K 85 && eqb R 0) (record { frame = K; word = 3 * K; repairs = 1 })
+abbrev pub threefoldSizes : (K R : ℕ) → Result Parameters ℕ
+threefoldSizes K R = if-allowed (leb 3 K && leb K 85 && eqb R 0) (record { frame = K; word = 3 * K; repairs = 1 })
 
 -- any coder: words of different frames differ in 2×t + 1 octets, so a word has at least that many
-abbrev pub anyCoder : (K N t : ℕ) → Result Parameters ℕ
-anyCoder K N t =
+abbrev pub anyCoderSizes : (K N t : ℕ) → Result Parameters ℕ
+anyCoderSizes K N t =
     if-allowed (leb 3 K && leb K N && leb N 255 && leb (2 * t + 1) N) (record { frame = K; word = N; repairs = t })

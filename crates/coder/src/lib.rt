@@ -2,5 +2,6 @@
 pub mod accepted;
 pub mod refusal;
 pub mod sizes;
+
 pub use refusal::Refusal;
 pub use sizes::Sizes;

@@ -1,6 +1,8 @@
 // The sizes of a coder. A value of this type exists only with numbers that some coder can have.
 ghost use Prim.Native.Nat.{_+_, _*_, _≤_};
 
+pub const LONGEST_WORD: usize = 255;
+
 #[derive(Clone, Copy, PartialEq, Eq, Debug)]
 pub struct Sizes {
     // K, the octets of a frame

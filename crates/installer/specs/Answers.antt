@@ -10,7 +10,7 @@ use Rattle.std.specs.declared.result.Result.the-variants.{Ok, Err}
 use Rattle.std.specs.Written.{decimal}
 use Rattle.coder.specs.declared.refusal.Refusal.{Refusal}
 use Rattle.coder.specs.Refusals.{numberOf}
-use Rattle.coder.specs.Sizes.{Parameters, reedSolomon, threefold}
+use Rattle.coder.specs.Sizes.{Parameters, reedSolomonSizes, threefoldSizes}
 use Rattle.places.specs.Line.{Plan}
 use Rattle.places.specs.Limit.{BurstLimit}
 use Rattle.setting.specs.Settings.{settingOf}
@@ -18,7 +18,7 @@ use Rattle.installer.specs.declared.report.Report.{Report}
 
 -- coder 0 is Reed-Solomon and 1 is threefold; another is refusal 4
 abbrev pub sizesOf : (coder K R : ℕ) → Result Parameters ℕ
-sizesOf coder K R = cond (eqb coder 0) (reedSolomon K R) (cond (eqb coder 1) (threefold K R) (Err 4))
+sizesOf coder K R = cond (eqb coder 0) (reedSolomonSizes K R) (cond (eqb coder 1) (threefoldSizes K R) (Err 4))
 
 -- the setting of such a coder with block length I and step M
 abbrev pub with-blocks : (I M : ℕ) → Result Parameters ℕ → Result Plan ℕ

@@ -2,6 +2,7 @@
 pub mod answer;
 pub mod report;
 pub mod text;
+
 pub use report::Report;
 
 #[cfg(test)]

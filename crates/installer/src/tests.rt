@@ -61,10 +61,26 @@ fn settings_at_the_edges() -> Result<(), Fail> {
 
 #[test]
 fn sizes_of_other_coders() -> Result<(), Fail> {
-    for (frame, check, refusal) in [(2, 0, 1), (3, 0, 0), (85, 0, 0), (86, 0, 1), (3, 1, 1), (HUGE, 0, 1)] {
+    for (frame, check, refusal) in [
+        (2, 0, 1),
+        (3, 0, 0),
+        (85, 0, 0),
+        (86, 0, 1),
+        (3, 1, 1),
+        (HUGE, 0, 1),
+    ] {
         check_eq(number(threefold(frame, check)), refusal)?;
     }
-    for (frame, word, repairs, refusal) in [(3, 3, 1, 0), (3, 3, 2, 1), (11, 15, 7, 0), (11, 15, 8, 1), (5, 4, 0, 1), (2, 9, 1, 1), (3, 256, 1, 1), (3, 9, HUGE, 1)] {
+    for (frame, word, repairs, refusal) in [
+        (3, 3, 1, 0),
+        (3, 3, 2, 1),
+        (11, 15, 7, 0),
+        (11, 15, 8, 1),
+        (5, 4, 0, 1),
+        (2, 9, 1, 1),
+        (3, 256, 1, 1),
+        (3, 9, HUGE, 1),
+    ] {
         check_eq(number(other(frame, word, repairs)), refusal)?;
     }
     Ok(())
@@ -107,7 +123,13 @@ fn lines(rt: LibcRuntime) -> Result<(), Fail> {
     check(line(rt.alloc(), b"\x00\x80\x10\x24\x0a")?.as_str() == "144 4 88 722 12744 6300")?;
     check(line(rt.alloc(), b"\x01\x03\x00\x03\x01")?.as_str() == "9 3 1 1 15 3")?;
     check(line(rt.alloc(), b"\x00\x04\x04\x01\xff")?.as_str() == "8 8 0 2 8 0")?;
-    for input in [b"" as &[u8], b"\x00\x04\x04\x04", b"\x00\x04\x04\x04\x02\x00", b"\x02\x04\x04\x04\x02", b"\xff\x02\x01\x00\xff"] {
+    for input in [
+        b"" as &[u8],
+        b"\x00\x04\x04\x04",
+        b"\x00\x04\x04\x04\x02\x00",
+        b"\x02\x04\x04\x04\x02",
+        b"\xff\x02\x01\x00\xff",
+    ] {
         check(line(rt.alloc(), input)?.as_str() == "refused 4")?;
     }
     check(line(rt.alloc(), b"\x01\x03\x02\x00\xff")?.as_str() == "refused 1")?;

@@ -15,7 +15,14 @@ use std::alloc::Global;
 fn accepted(heap: Global, report: Report) -> Result<String, AllocError>
     ensures { λ r. ⌜ made r (λ s. string-bytes s ≡ text (Ok report)) ⌝ }
 {
-    let Report { word, parts, lag, burst, reach, memory } = report;
+    let Report {
+        word,
+        parts,
+        lag,
+        burst,
+        reach,
+        memory,
+    } = report;
     format!(heap, "{word} {parts} {lag} {burst} {reach} {memory}")
 }
 

@@ -5,16 +5,28 @@ use mathlib.Core.Bool.{Bool, true}
 use mathlib.Core.Logic.{_⊎_, inl, inr}
 use Prim.Native.Nat.{ℕ, zero, suc, _+_, _-_, _*_, _/_, _%_, _≤_, _<_}
 use native.Mathlib.Nat.{
-  zero-add, zero-mul, mul-zero, mul-one, suc-mul, add-mul, mul-add, mul-assoc, mul-comm, mul-le-mul-left, mul-le-mul-right, mod-lt,
-  div-add-mod', div-lt-iff-lt-mul
+  zero-add,
+  zero-mul,
+  mul-zero,
+  mul-one,
+  suc-mul,
+  add-mul,
+  mul-add,
+  mul-assoc,
+  mul-comm,
+  mul-le-mul-left,
+  mul-le-mul-right,
+  mod-lt,
+  div-add-mod',
+  div-lt-iff-lt-mul,
 }
 use native.Mathlib.Omega.{arith}
 use lib.Arith.{digits-div, digits-lt, digits-mod}
 use Rattle.std.proofs.shelf.Tests.{cases-lt}
-use Rattle.places.specs.Line.{Plan, Laid, place}
+use Rattle.places.specs.Line.{Plan, place}
 use Rattle.places.specs.Limit.{tally, within, held, Longest, wideLimit}
 use Rattle.places.proofs.Tallies.{Apart, tally-more, few-within, within-true, within-from}
-use Rattle.places.proofs.Places.{apart, first, part-lt}
+use Rattle.places.proofs.Places.{Laid, apart, first, part-lt}
 use Rattle.places.proofs.Stretches.{Starts, held-few, held-more, held-longer, found-longest}
 
 module _ {p : Plan} (laid : Laid p) where
@@ -30,8 +42,12 @@ module _ {p : Plan} (laid : Laid p) where
       omega (arith, held-more laid 0 0 (f 0) (o .0) (o .1) (o .2 ∙ sym (zero-add (f 0))))
   climbs f e (suc a) octets rising h =
       let o = octets (suc a) h in
-      omega (arith, climbs f e a octets rising (omega arith), held-longer laid 0 0 (suc (f a)) (f (suc a)) (rising a (omega arith)),
-        held-more laid 0 0 (f (suc a)) (o .0) (o .1) (o .2 ∙ sym (zero-add (f (suc a)))))
+      omega (
+        arith,
+        climbs f e a octets rising (omega arith),
+        held-longer laid 0 0 (suc (f a)) (f (suc a)) (rising a (omega arith)),
+        held-more laid 0 0 (f (suc a)) (o .0) (o .1) (o .2 ∙ sym (zero-add (f (suc a)))),
+      )
 
   -- so they bound the longest stretch, if they are as close together as octets can be
   longest-by : (f : ℕ → ℕ) (e : ℕ) → ((b : ℕ) → b ≤ e → Octet (f b)) → ((b : ℕ) → b < e → f b < f (suc b)) → Starts p e (f e) → Longest p e (f e)
@@ -67,15 +83,23 @@ module _ {p : Plan} (laid : Laid p) where
   spot-order : (j k : ℕ) → (0 * p .parts + k + p .step * j) * p .block + j ≡ j * (p .step * p .block + 1) + k * p .block
   spot-order j k =
       let t : p .step * j * p .block ≡ j * (p .step * p .block) = simp (mul-assoc, mul-comm (p .step) (j * p .block), mul-comm (p .step) (p .block)) in
-      omega (arith, t, add-mul (0 * p .parts + k) (p .step * j) (p .block), add-mul (0 * p .parts) k (p .block),
-        ap (λ x. x * p .block) (zero-mul (p .parts)), zero-mul (p .block), mul-add j (p .step * p .block) 1, mul-one j)
+      omega (
+        arith,
+        t,
+        add-mul (0 * p .parts + k) (p .step * j) (p .block),
+        add-mul (0 * p .parts) k (p .block),
+        ap (λ x. x * p .block) (zero-mul (p .parts)),
+        zero-mul (p .block),
+        mul-add j (p .step * p .block) 1,
+        mul-one j,
+      )
 
   ranked : (n : ℕ) → n < p .word → place p 0 n ≡ order (rank n)
   unfolding place rank
   ranked n h =
       spot-order (n % p .block) (n / p .block)
       ∙ ap₂ (λ j k. j * (p .step * p .block + 1) + k * p .block)
-        (sym (digits-div (n % p .block) (part-lt laid n h))) (sym (digits-mod (n % p .block) (part-lt laid n h)))
+      (sym (digits-div (n % p .block) (part-lt laid n h))) (sym (digits-mod (n % p .block) (part-lt laid n h)))
 
   octet-ranked : 0 < p .parts → (a : ℕ) → a < p .word → Octet (order a)
   unfolding place
@@ -103,23 +127,33 @@ module _ {p : Plan} (laid : Laid p) where
 
         go : (a % p .parts + b % p .parts < p .parts) ⊎ (p .parts ≤ a % p .parts + b % p .parts) → order a + order b ≤ order (a + b)
         go (inl less) =
-            omega (arith, at (a / p .parts + b / p .parts) (a % p .parts + b % p .parts) less sum,
-              add-mul (a / p .parts) (b / p .parts) (p .step * p .block + 1), add-mul (a % p .parts) (b % p .parts) (p .block))
+            omega (
+              arith,
+              at (a / p .parts + b / p .parts) (a % p .parts + b % p .parts) less sum,
+              add-mul (a / p .parts) (b / p .parts) (p .step * p .block + 1),
+              add-mul (a % p .parts) (b % p .parts) (p .block),
+            )
         go (inr more) =
             let j = a / p .parts + b / p .parts in
             let r = a % p .parts + b % p .parts - p .parts in
             let r-lt : r < p .parts = omega (arith, mod-lt a some, mod-lt b some) in
             let cut : r * p .block + p .parts * p .block ≡ a % p .parts * p .block + b % p .parts * p .block
-                = sym (add-mul r (p .parts) (p .block)) ∙ ap (λ x. x * p .block) (omega arith) ∙ add-mul (a % p .parts) (b % p .parts) (p .block) in
-            omega (arith, at (suc j) r r-lt (omega (arith, sum, suc-mul j (p .parts))), cut, gap,
-              suc-mul j (p .step * p .block + 1), add-mul (a / p .parts) (b / p .parts) (p .step * p .block + 1))
+            = sym (add-mul r (p .parts) (p .block)) ∙ ap (λ x. x * p .block) (omega arith) ∙ add-mul (a % p .parts) (b % p .parts) (p .block) in
+            omega (
+              arith,
+              at (suc j) r r-lt (omega (arith, sum, suc-mul j (p .parts))),
+              cut,
+              gap,
+              suc-mul j (p .step * p .block + 1),
+              add-mul (a / p .parts) (b / p .parts) (p .step * p .block + 1),
+            )
 
     -- each of them stands further on than its number says
     order-above : (a : ℕ) → a ≤ order a
     order-above a =
         let block-1 : p .parts * 1 ≤ p .parts * p .block = mul-le-mul-left (p .parts) (laid .some) in
         let far : (a / p .parts) * p .parts ≤ (a / p .parts) * (p .step * p .block + 1)
-            = mul-le-mul-left (a / p .parts) (omega (arith, gap, block-1, mul-one (p .parts))) in
+        = mul-le-mul-left (a / p .parts) (omega (arith, gap, block-1, mul-one (p .parts))) in
         let near : (a % p .parts) * 1 ≤ (a % p .parts) * p .block = mul-le-mul-left (a % p .parts) (laid .some) in
         omega (arith, far, near, mul-one (a % p .parts), div-add-mod' a (p .parts))
 

@@ -3,13 +3,31 @@
 use mathlib.Core.Path.{_≡_, refl, sym, ap, ap₂, _∙_}
 use Prim.Native.Nat.{ℕ, zero, suc, _+_, _-_, _*_, _/_, _%_, _≤_, _<_}
 use native.Mathlib.Nat.{
-  zero-add, zero-mul, mul-zero, suc-mul, add-mul, mul-assoc, mul-comm, mul-le-mul-left, mul-le-mul-right,
-  zero-div, zero-mod, mod-lt, div-add-mod', div-lt-iff-lt-mul
+  zero-add,
+  zero-mul,
+  mul-zero,
+  suc-mul,
+  add-mul,
+  mul-assoc,
+  mul-comm,
+  mul-le-mul-left,
+  mul-le-mul-right,
+  zero-div,
+  zero-mod,
+  mod-lt,
+  div-add-mod',
+  div-lt-iff-lt-mul,
 }
 use native.Mathlib.Omega.{arith}
 use lib.Arith.{digits-div, digits-lt, digits-mod}
-use Rattle.places.specs.Line.{Plan, Laid, Lies, place}
+use Rattle.places.specs.Line.{Plan, Lies, place}
 use Rattle.places.proofs.Tallies.{Apart}
+
+-- the relations between the numbers that places on the line rest on
+pub record Laid (p : Plan) : Type 0 where
+  pub some : 0 < p .block
+  pub whole : p .parts * p .block ≡ p .word
+  pub spans : p .reach ≡ p .step * p .block * (p .block - 1) + p .word
 
 module _ {p : Plan} (laid : Laid p) where
   branch-lt : (n : ℕ) → n % p .block < p .block
@@ -32,7 +50,7 @@ module _ {p : Plan} (laid : Laid p) where
   apart c n m k _ _ e =
       let j : m % p .block ≡ k % p .block = sym (branch-of c m) ∙ ap (λ x. x % p .block) e ∙ branch-of c k in
       let r : c * p .parts + m / p .block + p .step * (m % p .block) ≡ c * p .parts + k / p .block + p .step * (k % p .block)
-          = sym (row-of c m) ∙ ap (λ x. x / p .block) e ∙ row-of c k in
+      = sym (row-of c m) ∙ ap (λ x. x / p .block) e ∙ row-of c k in
       let s : p .step * (m % p .block) ≡ p .step * (k % p .block) = ap (λ x. p .step * x) j in
       let b : m / p .block ≡ k / p .block = omega arith in
       sym (div-add-mod' m (p .block)) ∙ ap₂ (λ x y. x * p .block + y) b j ∙ div-add-mod' k (p .block)
@@ -44,8 +62,17 @@ module _ {p : Plan} (laid : Laid p) where
       let k = n / p .block in
       let d = p .step * (n % p .block) in
       let w : c * p .parts * p .block ≡ c * p .word = mul-assoc c (p .parts) (p .block) ∙ ap (λ x. c * x) (laid .whole) in
-      omega (arith, w, add-mul (c * p .parts + k) d (p .block), add-mul (c * p .parts) k (p .block),
-        add-mul (0 * p .parts + k) d (p .block), add-mul (0 * p .parts) k (p .block), zero-mul (p .parts), ap (λ x. x * p .block) (zero-mul (p .parts)), zero-mul (p .block))
+      omega (
+        arith,
+        w,
+        add-mul (c * p .parts + k) d (p .block),
+        add-mul (c * p .parts) k (p .block),
+        add-mul (0 * p .parts + k) d (p .block),
+        add-mul (0 * p .parts) k (p .block),
+        zero-mul (p .parts),
+        ap (λ x. x * p .block) (zero-mul (p .parts)),
+        zero-mul (p .block),
+      )
 
   -- a word begins at the place of its octet 0 and ends within its reach
   at-0 : place p 0 0 ≡ 0
@@ -64,11 +91,19 @@ module _ {p : Plan} (laid : Laid p) where
       let j-lt : j < p .block = branch-lt n in
       let k-lt : suc k * p .block ≤ p .parts * p .block = mul-le-mul-right (p .block) (part-lt n h) in
       let d-le : d * p .block ≤ p .step * (p .block - 1) * p .block
-          = mul-le-mul-right (p .block) (mul-le-mul-left (p .step) (omega arith)) in
+      = mul-le-mul-right (p .block) (mul-le-mul-left (p .step) (omega arith)) in
       let turned : p .step * (p .block - 1) * p .block ≡ p .step * p .block * (p .block - 1)
-          = simp (mul-assoc, mul-comm (p .block - 1) (p .block)) in
-      omega (arith, laid .spans, laid .whole, suc-mul k (p .block), add-mul (0 * p .parts + k) d (p .block),
-        add-mul (0 * p .parts) k (p .block), ap (λ x. x * p .block) (zero-mul (p .parts)), zero-mul (p .block))
+      = simp (mul-assoc, mul-comm (p .block - 1) (p .block)) in
+      omega (
+        arith,
+        laid .spans,
+        laid .whole,
+        suc-mul k (p .block),
+        add-mul (0 * p .parts + k) d (p .block),
+        add-mul (0 * p .parts) k (p .block),
+        ap (λ x. x * p .block) (zero-mul (p .parts)),
+        zero-mul (p .block),
+      )
 
   -- a line place is an octet's just where its line block is one of the q that carry octets of the word in that branch
   pub octet-there : (x : ℕ) → p .step * (x % p .block) ≤ x / p .block → x / p .block < p .step * (x % p .block) + p .parts
@@ -81,9 +116,11 @@ module _ {p : Plan} (laid : Laid p) where
       let n = k * p .block + j in
       let k-lt : k < p .parts = omega arith in
       let n-lt : n < p .parts * p .block = digits-lt k-lt (branch-lt x) in
-      let row : 0 * p .parts + k + d ≡ x / p .block = omega (arith, zero-mul (p .parts)) in
-      (n, rw (laid .whole) at n-lt,
-       simp (digits-div k (branch-lt x), digits-mod k (branch-lt x)) (ap (λ r. r * p .block + j) row ∙ div-add-mod' x (p .block)))
+      let row : 0 * p .parts + k + d ≡ x / p .block = omega (arith, zero-mul (p .parts)) in (
+        n,
+        rw (laid .whole) at n-lt,
+        simp (digits-div k (branch-lt x), digits-mod k (branch-lt x)) (ap (λ r. r * p .block + j) row ∙ div-add-mod' x (p .block)),
+      )
 
   pub there-low : (n : ℕ) → p .step * (place p 0 n % p .block) ≤ place p 0 n / p .block
   there-low n = rw (branch-of 0 n, row-of 0 n) (omega arith)
@@ -102,8 +139,18 @@ module _ {p : Plan} (laid : Laid p) where
       let n : p .word - 1 ≡ k * p .block + j = omega (arith, laid .whole, laid .some, whole) in
       let turned : p .step * j * p .block ≡ p .step * p .block * j = simp (mul-assoc, mul-comm j (p .block)) in
       rw (n, digits-div k j-lt, digits-mod k j-lt)
-      (omega (arith, laid .spans, laid .whole, laid .some, whole, turned, add-mul (0 * p .parts + k) (p .step * j) (p .block),
-        add-mul (0 * p .parts) k (p .block), ap (λ x. x * p .block) (zero-mul (p .parts)), zero-mul (p .block)))
+      (omega (
+        arith,
+        laid .spans,
+        laid .whole,
+        laid .some,
+        whole,
+        turned,
+        add-mul (0 * p .parts + k) (p .step * j) (p .block),
+        add-mul (0 * p .parts) k (p .block),
+        ap (λ x. x * p .block) (zero-mul (p .parts)),
+        zero-mul (p .block),
+      ))
 
   pub lies : 0 < p .parts → Lies p
   lies some = record {

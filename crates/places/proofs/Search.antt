@@ -9,8 +9,9 @@ use native.Mathlib.Omega.{arith}
 use lib.ListN.{length, getD, set, replicate}
 use Rattle.std.proofs.shelf.Lists.{getD-replicate, getD-set-other, getD-set-same, length-replicate, length-set}
 use Rattle.std.proofs.shelf.Tests.{cases-eq}
-use Rattle.places.specs.Line.{Plan, Laid, place}
+use Rattle.places.specs.Line.{Plan, place}
 use Rattle.places.specs.Limit.{held, Longest}
+use Rattle.places.proofs.Places.{Laid}
 use Rattle.places.proofs.Stretches.{Starts, held-none, held-more, held-same, found-longest}
 
 -- The stretch from octet n on has L + 1 places where n is below i, and L places from i on; none holds more than e.

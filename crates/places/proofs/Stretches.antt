@@ -8,13 +8,25 @@ use native.Mathlib.Numerals.{add-one}
 use native.Mathlib.Omega.{arith}
 use lib.Dec.{ltb, eqb}
 use Rattle.std.proofs.shelf.Tests.{cases-lt, eq-eqb, eqb-true, eqb-false, ne-eqb, ltb-true, ltb-false}
-use Rattle.places.specs.Line.{Plan, Laid, place}
+use Rattle.places.specs.Line.{Plan, place}
 use Rattle.places.specs.Limit.{tally, within, held, Spreads, Longest, Sharp}
 use Rattle.places.proofs.Tallies.{
-  find, tally-split, tally-same, tally-more, tally-none, tally-all, hits-once, few-within,
-  within-last, within-first, within-true, within-from, within-none, within-moved
+  find,
+  tally-split,
+  tally-same,
+  tally-more,
+  tally-none,
+  tally-all,
+  hits-once,
+  few-within,
+  within-last,
+  within-first,
+  within-true,
+  within-from,
+  within-none,
+  within-moved,
 }
-use Rattle.places.proofs.Places.{apart, moved, first, reached}
+use Rattle.places.proofs.Places.{Laid, apart, moved, first, reached}
 
 -- no stretch of L places that begins with an octet of word 0 holds more than e of them
 abbrev pub Starts : Plan → (e L : ℕ) → Type 0
@@ -82,7 +94,7 @@ module _ {p : Plan} (laid : Laid p) where
           (λ n l. within-first a L (place p c n) (free n l))
 
       go : held p c (suc a) L ≤ e → ((n : ℕ) × (n < p .word) × (eqb (place p c n) a ≡ true)) ⊎ ((n : ℕ) → n < p .word → eqb (place p c n) a ≡ false)
-         → held p c a (suc L) ≤ e
+          → held p c a (suc L) ≤ e
       go rest (inl found) =
           let n = found .0 in
           let e1 : a ≡ c * p .word + place p 0 n = sym (eqb-true (place p c n) a (found .2)) ∙ moved laid c n in
@@ -116,15 +128,18 @@ module _ {p : Plan} (laid : Laid p) where
   sharp e B longest c = go (find (λ n. ltb e (held p 0 (place p 0 n) (suc B))) (p .word))
     where
       ends : (n : ℕ) → n < p .word → e < held p 0 (place p 0 n) (suc B)
-           → ((m : ℕ) × (m < p .word) × (eqb (place p 0 m) (place p 0 n + B) ≡ true)) ⊎ ((m : ℕ) → m < p .word → eqb (place p 0 m) (place p 0 n + B) ≡ false)
-           → place p 0 n + B < p .reach
+          → ((m : ℕ) × (m < p .word) × (eqb (place p 0 m) (place p 0 n + B) ≡ true)) ⊎ ((m : ℕ) → m < p .word → eqb (place p 0 m) (place p 0 n + B) ≡ false)
+          → place p 0 n + B < p .reach
       ends n l over (inl last) = omega (arith, eqb-true (place p 0 (last .0)) (place p 0 n + B) (last .2), reached laid (last .0) (last .1))
       ends n l over (inr free) =
-          absurd (omega (arith, longest .spreads 0 (place p 0 n),
-            held-same 0 (place p 0 n) B (λ m k. eqb-false (place p 0 m) (place p 0 n + B) (free m k))))
+          absurd (omega (
+            arith,
+            longest .spreads 0 (place p 0 n),
+            held-same 0 (place p 0 n) B (λ m k. eqb-false (place p 0 m) (place p 0 n + B) (free m k)),
+          ))
 
       go : ((n : ℕ) × (n < p .word) × (ltb e (held p 0 (place p 0 n) (suc B)) ≡ true)) ⊎ ((n : ℕ) → n < p .word → ltb e (held p 0 (place p 0 n) (suc B)) ≡ false)
-         → (a : ℕ) × (c * p .word ≤ a) × (a + B < c * p .word + p .reach) × (e < held p c a (B + 1))
+          → (a : ℕ) × (c * p .word ≤ a) × (a + B < c * p .word + p .reach) × (e < held p c a (B + 1))
       go (inl found) =
           let n = found .0 in
           let over : e < held p 0 (place p 0 n) (suc B) = ltb-true e (held p 0 (place p 0 n) (suc B)) (found .2) in

@@ -18,7 +18,7 @@ find f zero = inr (λ m h. absurd (omega arith))
 find f (suc n) = go (find f n) (cases-bool (f n))
   where
     go : ((m : ℕ) × (m < n) × (f m ≡ true)) ⊎ ((m : ℕ) → m < n → f m ≡ false) → (f n ≡ true) ⊎ (f n ≡ false)
-       → ((m : ℕ) × (m < suc n) × (f m ≡ true)) ⊎ ((m : ℕ) → m < suc n → f m ≡ false)
+        → ((m : ℕ) × (m < suc n) × (f m ≡ true)) ⊎ ((m : ℕ) → m < suc n → f m ≡ false)
     go (inl found) last = inl (found .0, omega (arith, found .1), found .2)
     go (inr none) (inl last) = inl (n, omega arith, last)
     go (inr none) (inr last) = inr (λ m h. at m (cases-lt m n) h)

@@ -34,12 +34,6 @@ spot p c k j = (c * p .parts + k + p .step * j) * p .block + j
 unfoldable pub place : Plan → (c n : ℕ) → ℕ
 place p c n = spot p c (n / p .block) (n % p .block)
 
--- the relations between the numbers that places on the line rest on
-pub record Laid (p : Plan) : Type 0 where
-  pub some : 0 < p .block
-  pub whole : p .parts * p .block ≡ p .word
-  pub spans : p .reach ≡ p .step * p .block * (p .block - 1) + p .word
-
 -- How words lie on the line: word c as word 0 does, c×N places further on. Its octets stand on the Z places from c×N on,
 -- the first octet on the first of them and the last on the last.
 pub record Lies (p : Plan) : Type 0 where

@@ -7,8 +7,8 @@ use native.Mathlib.Omega.{arith}
 use lib.Dec.{leb, ltb}
 use Rattle.std.proofs.shelf.Tests.{cases-lt, leb-true, lt-ltb, ltb-true}
 use Rattle.std.specs.Orderings.{Decides}
-use Rattle.places.specs.Line.{Plan, Laid, place}
-use Rattle.places.proofs.Places.{octet-there, reached, there-high, there-low}
+use Rattle.places.specs.Line.{Plan, place}
+use Rattle.places.proofs.Places.{Laid, octet-there, reached, there-high, there-low}
 use Rattle.setting.specs.declared.setting.Setting.{Setting}
 use Rattle.setting.specs.Settings.{plan}
 use Rattle.setting.proofs.Numbers.{spread-below}
@@ -85,6 +85,7 @@ module _ (s : Setting) where
       (λ t. octet-there laid x low (ltb-true _ _ t), λ o. lt-ltb _ _ (rw (o .2) at (there-high laid (o .0) (o .1))))
 
   pub too-early : (x : ℕ) → x / s .block < s .step * (x % s .block) → Decides (leb (s .step * (x % s .block)) (x / s .block)) (Octet x)
-  too-early x early =
-      (λ t. absurd (omega (arith, early, leb-true (s .step * (x % s .block)) (x / s .block) t)),
-       λ o. absurd (omega (arith, early, rw (o .2) at (there-low laid (o .0)))))
+  too-early x early = (
+    λ t. absurd (omega (arith, early, leb-true (s .step * (x % s .block)) (x / s .block) t)),
+    λ o. absurd (omega (arith, early, rw (o .2) at (there-low laid (o .0)))),
+  )

@@ -1,9 +1,8 @@
 // Which settings are accepted.
 ghost use mathlib.Core.Path.{_≡_};
-ghost use Prim.Native.Nat.{_-_, _*_, _≤_, _<_};
-ghost use lib.Dec.{ltb, eqb};
 ghost use mathlib.Core.Bool.{_&&_, true};
-ghost use Prim.Native.Nat.{_%_};
+ghost use Prim.Native.Nat.{_-_, _*_, _%_, _≤_, _<_};
+ghost use lib.Dec.{ltb, eqb};
 ghost use Rattle.coder.specs.Sizes.{parameters};
 ghost use Rattle.setting.specs.Settings.{told, settingOf};
 use crate::setting::Setting;
@@ -11,6 +10,7 @@ use coder::Refusal;
 use coder::Sizes;
 
 const LARGEST_STEP: usize = 255;
+
 const MOST_MEMORY: usize = 16384;
 
 // Whether a word can be cut into blocks of this length; one that can has no blocks longer than itself.
@@ -31,6 +31,7 @@ fn twice_memory(block: usize, step: usize) -> usize
 }
 
 impl Setting {
+    // The setting of a coder of these sizes with block length I and step M.
     pub fn new(sizes: Sizes, block: usize, step: usize) -> Result<Setting, Refusal>
         ensures { λ r. ⌜ told r ≡ settingOf (parameters sizes) block step ⌝ }
     {

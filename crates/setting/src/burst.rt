@@ -7,8 +7,7 @@ ghost use Rattle.places.specs.Limit.{Longest, BurstLimit, Sharp};
 ghost use Rattle.setting.specs.Answers.{Placed};
 ghost use Rattle.setting.specs.Settings.{plan};
 use crate::setting::Setting;
-
-const LONGEST_WORD: usize = 255;
+use coder::sizes::LONGEST_WORD;
 
 impl Setting {
     // The line place of an octet of word 0.
@@ -65,6 +64,8 @@ impl Setting {
         longest
     }
 
+    // B: no burst of this length spoils more octets of a word than can be repaired, and each word has a stretch one place
+    // longer that holds more.
     pub fn burst_limit(&self) -> usize
         ensures limit { λ r. ⌜ BurstLimit (plan (now (self .entry))) r ⌝ }
         ensures sharp { λ r. ⌜ Sharp (plan (now (self .entry))) (now (self .entry) .sizes .repairs) r ⌝ }

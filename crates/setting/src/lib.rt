@@ -3,4 +3,5 @@ pub mod accepted;
 pub mod burst;
 pub mod formulas;
 pub mod setting;
+
 pub use setting::Setting;

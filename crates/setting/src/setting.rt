@@ -1,6 +1,6 @@
 // An accepted setting. A value of this type exists only with numbers that belong together.
-ghost use Prim.Native.Nat.{_+_, _-_, _*_, _/_, _≤_, _<_};
 ghost use mathlib.Core.Path.{_≡_};
+ghost use Prim.Native.Nat.{_*_, _≤_, _<_};
 ghost use Rattle.setting.specs.Relations.{memoryOf, delayOf, lagOf, reachOf};
 use coder::Sizes;
 use coder::sizes::SizesDebug;

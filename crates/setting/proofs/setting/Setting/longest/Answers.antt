@@ -20,10 +20,10 @@ loop-octet-again c =
     let l : c .loop-octet .octet < s .sizes .word = omega arith in
     let there = rw (c .place-of .ensures .value) at (c .stands-at .ensures) in
     elim (c .if-stands-at .came) [
-      then-stands-at·else-held-octet w ↦
-        rw (w .held-is) (more (laid s) (c .loop-octet .inv) l (there .0 (w .if-stands-at .taken)) (w .if-held-octet .left))
-    | else-stands-at w ↦
-        rw (w .held-is) (no-more (laid s) (c .loop-octet .inv) l (λ o. both-ways _ (w .if-stands-at .left) (there .1 o)))
+      | then-stands-at·else-held-octet w ↦
+          rw (w .held-is) (more (laid s) (c .loop-octet .inv) l (there .0 (w .if-stands-at .taken)) (w .if-held-octet .left))
+      | else-stands-at w ↦
+          rw (w .held-is) (no-more (laid s) (c .loop-octet .inv) l (λ o. both-ways _ (w .if-stands-at .left) (there .1 o)))
     ]
 
 -- a stretch as long as the reach would hold the whole word
@@ -38,5 +38,5 @@ returns-then-held-octet c =
     let l : c .loop-octet .octet < s .sizes .word = omega arith in
     let octet = rw (c .place-of .ensures .value) at (c .stands-at .ensures .0 (c .if-stands-at .taken)) in
     let found : Longest (plan s) (c .args .most) (c .search .longest)
-        = rw (c .search .inv .0) (too-many (laid s) (c .loop-octet .inv) l octet (c .if-held-octet .taken)) in
+    = rw (c .search .inv .0) (too-many (laid s) (c .loop-octet .inv) l octet (c .if-held-octet .taken)) in
     record { longest = found; sharp = sharp (laid s) (c .args .most) (c .search .longest) found }
