@@ -1,2 +1,4 @@
 pub mod Refusals
+pub mod Misfits
+pub mod Arrivals
 pub mod Sizes

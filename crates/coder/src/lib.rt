@@ -1,7 +1,11 @@
-// What every coder has in common: the sizes of its frames and words, and the refusals with their numbers.
+// What every coder has in common: the sizes of its frames and words, what arrives for it, and the refusals with their numbers.
 pub mod accepted;
+pub mod arrival;
+pub mod misfit;
 pub mod refusal;
 pub mod sizes;
 
+pub use arrival::Arrival;
+pub use misfit::Misfit;
 pub use refusal::Refusal;
 pub use sizes::Sizes;
