@@ -1,0 +1,4 @@
+pub mod Sums
+pub mod Products
+pub mod Powers
+pub mod Tables

@@ -1,0 +1,189 @@
+-- Tables of powers and logarithms: a test computed over the whole tables makes the reduced product a field. Assumes nothing.
+use mathlib.Core.Path.{_≡_, refl, sym, ap, ap₂, _∙_}
+use mathlib.Core.Bool.{Bool, true, false, _&&_}
+use mathlib.Core.List.{List, [], _∷_}
+use mathlib.Core.Logic.{_⊎_, inl, inr}
+use Prim.Native.Nat.{ℕ, zero, suc, _+_, _-_, _*_, _%_, _^_, _<_, _≤_}
+use native.Mathlib.Omega.{arith}
+use native.Mathlib.Nat.{mod-eq-of-lt}
+use lib.Bits.{bitXor, xor-lt}
+use lib.Pow.{pow-mono}
+use lib.Dec.{ltb, eqb}
+use lib.ListN.{length, getD, drop}
+use Rattle.std.proofs.shelf.Lists.{length-drop, getD-drop}
+use Rattle.std.proofs.shelf.Bits.{mod-below}
+use Rattle.field.proofs.Sums.{linear-zero}
+use Rattle.std.proofs.shelf.Tests.{and-parts, eqb-true, ltb-true}
+use Rattle.field.specs.Field.{Field, Laws, timesPower, power}
+use Rattle.field.specs.Binary.{binary, reducedTimes, reducedInverse}
+use Rattle.field.proofs.Products as product
+use Rattle.field.proofs.Powers.{Product, power-is, power-first, power-below, power-of-order}
+
+-- the entries are p, alpha·p, alpha·alpha·p and so on, and the one after the last would be 1 again
+unfoldable pub follow : (ℕ → ℕ) → ℕ → List ℕ → Bool
+follow next p [] = eqb p 1
+follow next p (x ∷ xs) = eqb x p && follow next (next p) xs
+
+-- entry i of the powers has the logarithm i
+unfoldable pub logged : List ℕ → ℕ → List ℕ → Bool
+logged logs i [] = true
+logged logs i (x ∷ xs) = eqb (getD logs x 0) i && logged logs (suc i) xs
+
+-- entry a of the logarithms is below `count` and the power there is a
+unfoldable pub raised : List ℕ → ℕ → List ℕ → Bool
+raised powers a [] = true
+raised powers a (l ∷ ls) = ltb l (length powers) && (eqb (getD powers l 0) a && raised powers (suc a) ls)
+
+follow-at : (times : ℕ → ℕ → ℕ) (alpha p : ℕ) (xs : List ℕ) → follow (times alpha) p xs ≡ true
+    → (i : ℕ) → i < length xs → getD xs i 0 ≡ timesPower times p alpha i
+unfolding follow timesPower
+follow-at times alpha p [] test i h = absurd (omega arith)
+follow-at times alpha p (x ∷ xs) test zero h = eqb-true x p (and-parts _ _ test .0)
+follow-at times alpha p (x ∷ xs) test (suc i) h =
+    follow-at times alpha (times alpha p) xs (and-parts _ _ test .1) i (omega (arith, h)) ∙ power-first times p alpha i
+
+follow-end : (times : ℕ → ℕ → ℕ) (alpha p : ℕ) (xs : List ℕ) → follow (times alpha) p xs ≡ true
+    → timesPower times p alpha (length xs) ≡ 1
+unfolding follow timesPower
+follow-end times alpha p [] test = eqb-true p 1 test
+follow-end times alpha p (x ∷ xs) test =
+    sym (power-first times p alpha (length xs)) ∙ follow-end times alpha (times alpha p) xs (and-parts _ _ test .1)
+
+logged-at : (logs : List ℕ) (i : ℕ) (xs : List ℕ) → logged logs i xs ≡ true
+    → (j : ℕ) → j < length xs → getD logs (getD xs j 0) 0 ≡ i + j
+unfolding logged
+logged-at logs i [] test j h = absurd (omega arith)
+logged-at logs i (x ∷ xs) test zero h = omega (arith, eqb-true (getD logs x 0) i (and-parts _ _ test .0))
+logged-at logs i (x ∷ xs) test (suc j) h = omega (arith, logged-at logs (suc i) xs (and-parts _ _ test .1) j (omega (arith, h)))
+
+raised-at : (powers : List ℕ) (a : ℕ) (ls : List ℕ) → raised powers a ls ≡ true → (j : ℕ) → j < length ls
+    → (getD ls j 0 < length powers) × (getD powers (getD ls j 0) 0 ≡ a + j)
+unfolding raised
+raised-at powers a [] test j h = absurd (omega arith)
+raised-at powers a (l ∷ ls) test zero h =
+    let parts = and-parts (ltb l (length powers)) (eqb (getD powers l 0) a && raised powers (suc a) ls) test in
+    let there : getD powers l 0 ≡ a = eqb-true (getD powers l 0) a (and-parts (eqb (getD powers l 0) a) (raised powers (suc a) ls) (parts .1) .0) in
+    (ltb-true l (length powers) (parts .0), omega (arith, there))
+raised-at powers a (l ∷ ls) test (suc j) h =
+    let parts = and-parts (ltb l (length powers)) (eqb (getD powers l 0) a && raised powers (suc a) ls) test in
+    let last = and-parts (eqb (getD powers l 0) a) (raised powers (suc a) ls) (parts .1) .1 in
+    let rest = raised-at powers (suc a) ls last j (omega (arith, h)) in
+    (rest .0, omega (arith, rest .1))
+
+-- The rule of a pair of tables: what is to be tested of k, r, alpha and them.
+pub record Tables (k r alpha : ℕ) (powers logs : List ℕ) : Type 0 where
+    pub least : 2 ≤ k
+    pub most : k ≤ 8
+    pub fits : r < 2 ^ k
+    pub alpha-fits : alpha < 2 ^ k
+    pub many : length powers ≡ 2 ^ k - 1
+    pub logs-many : length logs ≡ 2 ^ k
+    pub follows : follow (reducedTimes k r alpha) 1 powers ≡ true
+    pub logs-right : logged logs 0 powers ≡ true
+    pub powers-right : raised powers 1 (drop 1 logs) ≡ true
+
+module _ {k r alpha : ℕ} {powers logs : List ℕ} (t : Tables k r alpha powers logs) where
+    some : 1 ≤ k
+    some = omega (arith, t .least)
+
+    size-least : 4 ≤ 2 ^ k
+    size-least = pow-mono {i = 2} (t .least)
+
+    size-most : 2 ^ k ≤ 256
+    size-most = pow-mono {j = 8} (t .most)
+
+    times-below : (a b : ℕ) → reducedTimes k r a b < 2 ^ k
+    times-below = product.times-below some (t .fits)
+
+    neutral : (a : ℕ) → a < 2 ^ k → reducedTimes k r 1 a ≡ a
+    neutral = product.neutral some (t .fits)
+
+    associative : (a b c : ℕ) → reducedTimes k r (reducedTimes k r a b) c ≡ reducedTimes k r a (reducedTimes k r b c)
+    associative = product.associative some (t .fits)
+
+    commutative : (a b : ℕ) → reducedTimes k r a b ≡ reducedTimes k r b a
+    commutative = product.commutative some (t .fits)
+
+    raisable : Product (2 ^ k) (reducedTimes k r)
+    raisable = record { some = omega (arith, size-least); below = times-below; associative = associative; neutral = neutral }
+
+    pub power-at : (i : ℕ) → i < 2 ^ k - 1 → getD powers i 0 ≡ power (binary k r alpha) i
+    power-at i h =
+        follow-at (reducedTimes k r) alpha 1 powers (t .follows) i (omega (arith, t .many, h)) ∙ sym (power-is (binary k r alpha) i)
+
+    pub log-of-power : (i : ℕ) → i < 2 ^ k - 1 → getD logs (power (binary k r alpha) i) 0 ≡ i
+    log-of-power i h =
+        ap (λ x. getD logs x 0) (sym (power-at i h)) ∙ logged-at logs 0 powers (t .logs-right) i (omega (arith, t .many, h)) ∙ omega arith
+
+    pub power-of-log : (a : ℕ) → 0 < a → a < 2 ^ k
+        → (getD logs a 0 < 2 ^ k - 1) × (power (binary k r alpha) (getD logs a 0) ≡ a)
+    power-of-log zero h below = absurd (omega arith)
+    power-of-log (suc a) h below =
+        let left : length (drop 1 logs) ≡ length logs - 1 = length-drop 1 logs in
+        let found = raised-at powers 1 (drop 1 logs) (t .powers-right) a (omega (arith, below, left, t .logs-many)) in
+        let there : getD (drop 1 logs) a 0 ≡ getD logs (suc a) 0 = getD-drop 1 logs a 0 ∙ ap (λ x. getD logs x 0) (omega arith) in
+        let low : getD logs (suc a) 0 < 2 ^ k - 1 = omega (arith, found .0, there, t .many) in
+        let is : getD powers (getD (drop 1 logs) a 0) 0 ≡ suc a = found .1 ∙ omega arith in
+        (low, sym (power-at (getD logs (suc a) 0) low) ∙ ap (λ x. getD powers x 0) (sym there) ∙ is)
+
+    -- every element but 0 has the power n-1 equal to 1
+    order : timesPower (reducedTimes k r) 1 alpha (2 ^ k - 1) ≡ 1
+    order = ap (timesPower (reducedTimes k r) 1 alpha) (sym (t .many)) ∙ follow-end (reducedTimes k r) alpha 1 powers (t .follows)
+
+    whole-power : (a : ℕ) → 0 < a → a < 2 ^ k → timesPower (reducedTimes k r) 1 a (2 ^ k - 1) ≡ 1
+    whole-power a h below =
+        let log = power-of-log a h below in
+        let raised-to : timesPower (reducedTimes k r) 1 alpha (getD logs a 0) ≡ a = sym (power-is (binary k r alpha) (getD logs a 0)) ∙ log .1 in
+        ap (λ x. timesPower (reducedTimes k r) 1 x (2 ^ k - 1)) (sym raised-to)
+          ∙ power-of-order raisable alpha (2 ^ k - 1) (getD logs a 0) order
+
+    pub powers-differ : (i j : ℕ) → i < 2 ^ k - 1 → j < 2 ^ k - 1 → power (binary k r alpha) i ≡ power (binary k r alpha) j → i ≡ j
+    powers-differ i j hi hj same = sym (log-of-power i hi) ∙ ap (λ x. getD logs x 0) same ∙ log-of-power j hj
+
+    element : (a : ℕ) → a % 2 ^ k < 2 ^ k
+    element a = mod-below a (2 ^ k) (omega (arith, size-least))
+
+    inverse-below : (a : ℕ) → reducedInverse k r a < 2 ^ k
+    unfolding reducedInverse
+    inverse-below a = power-below raisable a (2 ^ k - 2)
+
+    stands : (a j : ℕ) → timesPower (reducedTimes k r) 1 (a % 2 ^ k) j ≡ timesPower (reducedTimes k r) 1 a j
+    unfolding timesPower
+    stands a zero = refl
+    stands a (suc j) =
+        product.remainder-stands some (t .fits) a (timesPower (reducedTimes k r) 1 (a % 2 ^ k) j) ∙ ap (reducedTimes k r a) (stands a j)
+
+    inverts : (a : ℕ) → 0 < a % 2 ^ k → reducedTimes k r a (reducedInverse k r a) ≡ 1
+    unfolding reducedInverse timesPower
+    inverts a h =
+        let one-more : suc (2 ^ k - 2) ≡ 2 ^ k - 1 = omega (arith, size-least) in
+        ap (timesPower (reducedTimes k r) 1 a) one-more ∙ sym (stands a (2 ^ k - 1)) ∙ whole-power (a % 2 ^ k) h (element a)
+
+    nothing-inverts : (a : ℕ) → a % 2 ^ k ≡ 0 → reducedInverse k r a ≡ 0
+    unfolding reducedInverse timesPower
+    nothing-inverts a none =
+        let one-more : 2 ^ k - 2 ≡ suc (2 ^ k - 3) = omega (arith, size-least) in
+        ap (timesPower (reducedTimes k r) 1 a) one-more ∙ nothing (timesPower (reducedTimes k r) 1 a (2 ^ k - 3))
+      where
+        nothing : (x : ℕ) → reducedTimes k r a x ≡ 0
+        nothing x =
+            sym (product.remainder-stands some (t .fits) a x) ∙ ap (λ y. reducedTimes k r y x) none ∙ commutative 0 x
+              ∙ linear-zero (reducedTimes k r x) (product.distributive some (t .fits) x)
+
+    pub laws : Laws (binary k r alpha)
+    laws = record {
+        at-least-four = size-least;
+        at-most-octets = size-most;
+        sum-below = xor-lt k;
+        times-below = times-below;
+        remainder-stands = product.remainder-stands some (t .fits);
+        associative = associative;
+        commutative = commutative;
+        distributive = product.distributive some (t .fits);
+        neutral = neutral;
+        inverse-below = inverse-below;
+        inverts = inverts;
+        nothing-inverts = nothing-inverts;
+        alpha-below = t .alpha-fits;
+        every-power = λ a h below. (getD logs a 0, power-of-log a h below .0, power-of-log a h below .1);
+        powers-differ = powers-differ }
