@@ -1,4 +1,6 @@
 pub mod Sums
 pub mod Products
 pub mod Powers
-pub mod Tables
+pub mod Generators
+pub mod Octets
+pub mod Facts

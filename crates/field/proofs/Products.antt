@@ -9,10 +9,10 @@ use Rattle.std.proofs.shelf.Bits.{mod-below, div-below}
 use Rattle.field.specs.Binary.{doubled, timesBits, reducedTimes}
 use Rattle.field.proofs.Sums.{Linear, linear-zero, linear-sum, linear-after, halved, moved-up, remainder, quotient, bit-times}
 
-none : (a : ℕ) → 0 * a ≡ 0
+pub none : (a : ℕ) → 0 * a ≡ 0
 none a = omega arith
 
-once : (a : ℕ) → 1 * a ≡ a
+pub once : (a : ℕ) → 1 * a ≡ a
 once a = omega arith
 
 -- a bit times a number commutes with every linear map
@@ -72,6 +72,11 @@ carried k r φ linear commutes (suc n) a b =
 pub doubled-product : (k r n a b : ℕ) → timesBits k r n (doubled k r a) b ≡ doubled k r (timesBits k r n a b)
 doubled-product k r n a b = sym (carried k r (doubled k r) (doubled-linear k r) (λ x. refl) n a b)
 
+-- from the lowest bit on
+pub bits-step : (k r n a b : ℕ) → timesBits k r (suc n) a b ≡ bitXor (b % 2 * a) (timesBits k r n (doubled k r a) (b / 2))
+unfolding timesBits
+bits-step k r n a b = ap (bitXor (b % 2 * a)) (sym (doubled-product k r n a (b / 2)))
+
 pub swapped : (k r n m a b c : ℕ) → timesBits k r m (timesBits k r n a b) c ≡ timesBits k r n (timesBits k r m a c) b
 swapped k r n m a b c =
     carried k r (λ x. timesBits k r m x c) (left-linear k r m c) (λ x. doubled-product k r m x c) n a b
@@ -90,7 +95,7 @@ module _ {k r : ℕ} (some : 1 ≤ k) (fits : r < 2 ^ k) where
         xor-lt k (b % 2 * a) (doubled k r (timesBits k r n a (b / 2))) (scale-below (b % 2) a (2 ^ k) (bit b) h) (doubled-below (timesBits k r n a (b / 2)))
 
     -- a number whose highest bit is 0 doubles without reduction
-    doubled-low : (a : ℕ) → a < 2 ^ (k - 1) → doubled k r a ≡ 2 * a
+    pub doubled-low : (a : ℕ) → a < 2 ^ (k - 1) → doubled k r a ≡ 2 * a
     unfolding doubled
     doubled-low a low =
         let whole : 2 ^ k ≡ 2 ^ (k - 1) * 2 = ap (λ (x : ℕ). 2 ^ x) (omega (arith, some)) ∙ pow-suc 2 (k - 1) in

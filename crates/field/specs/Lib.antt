@@ -1,2 +1,4 @@
 pub mod Field
 pub mod Binary
+pub mod Polynomials
+pub mod Samples

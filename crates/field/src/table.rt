@@ -1,10 +1,13 @@
 // The octets by tables: a product of two powers of alpha is the power at the sum of their logarithms.
 ghost use mathlib.Core.Path.{_≡_};
-ghost use Rattle.field.specs.Binary.{octets};
+ghost use Prim.Native.Nat.{_<_, _≤_};
+ghost use Rattle.field.specs.Field.{power};
+ghost use Rattle.field.specs.Binary.{octets, reducedTimes, reducedInverse};
 use crate::field::Field;
 
 // the powers 0 to 254 of alpha
-const POWERS: &[u8; 255] = b"\x01\x02\x04\x08\x10\x20\x40\x80\x1d\x3a\x74\xe8\xcd\x87\x13\x26\
+const POWERS: &[u8; 255] = b"\
+    \x01\x02\x04\x08\x10\x20\x40\x80\x1d\x3a\x74\xe8\xcd\x87\x13\x26\
     \x4c\x98\x2d\x5a\xb4\x75\xea\xc9\x8f\x03\x06\x0c\x18\x30\x60\xc0\
     \x9d\x27\x4e\x9c\x25\x4a\x94\x35\x6a\xd4\xb5\x77\xee\xc1\x9f\x23\
     \x46\x8c\x05\x0a\x14\x28\x50\xa0\x5d\xba\x69\xd2\xb9\x6f\xde\xa1\
@@ -21,8 +24,9 @@ const POWERS: &[u8; 255] = b"\x01\x02\x04\x08\x10\x20\x40\x80\x1d\x3a\x74\xe8\xc
     \x12\x24\x48\x90\x3d\x7a\xf4\xf5\xf7\xf3\xfb\xeb\xcb\x8b\x0b\x16\
     \x2c\x58\xb0\x7d\xfa\xe9\xcf\x83\x1b\x36\x6c\xd8\xad\x47\x8e";
 
-// LOGARITHMS[a] is k where a is power k of alpha; nothing is a logarithm of 0
-const LOGARITHMS: &[u8; 256] = b"\x00\x00\x01\x19\x02\x32\x1a\xc6\x03\xdf\x33\xee\x1b\x68\xc7\x4b\
+// LOGARITHMS[a] is k where power k of alpha is a; 0 is no power and has 255
+const LOGARITHMS: &[u8; 256] = b"\
+    \xff\x00\x01\x19\x02\x32\x1a\xc6\x03\xdf\x33\xee\x1b\x68\xc7\x4b\
     \x04\x64\xe0\x0e\x34\x8d\xef\x81\x1c\xc1\x69\xf8\xc8\x08\x4c\x71\
     \x05\x8a\x65\x2f\xe1\x24\x0f\x21\x35\x93\x8e\xda\xf0\x12\x82\x45\
     \x1d\xb5\xc2\x7d\x6a\x27\xf9\xb9\xc9\x9a\x09\x78\x4d\xe4\x72\xa6\
@@ -41,7 +45,7 @@ const LOGARITHMS: &[u8; 256] = b"\x00\x00\x01\x19\x02\x32\x1a\xc6\x03\xdf\x33\xe
 
 pub struct Table;
 
-impl Field for Table as TableField {
+pub impl Field for Table as TableField {
     ghost field = { octets };
 
     fn size() -> usize {
@@ -49,19 +53,52 @@ impl Field for Table as TableField {
     }
 
     fn times(a: u8, b: u8) -> u8 {
-        if a == 0 || b == 0 {
-            return 0;
-        }
-        power_at(LOGARITHMS[a as usize] as usize + LOGARITHMS[b as usize] as usize)
+        by_logarithms(a, b)
+    }
+
+    fn inverse(a: u8) -> u8 {
+        power_back(a)
+    }
+
+    fn power(k: u8) -> u8 {
+        power_of(k as usize)
     }
 }
 
-fn power_at(sum: usize) -> u8 {
-    if sum < 255 {
-        POWERS[sum]
-    } else if sum < 510 {
-        POWERS[sum - 255]
-    } else {
-        0
+fn by_logarithms(a: u8, b: u8) -> u8
+    ensures { λ r. ⌜ r ≡ reducedTimes 8 29 a b ⌝ }
+{
+    if a == 0 || b == 0 {
+        return 0;
     }
+    power_of(logarithm(a) + logarithm(b))
+}
+
+fn power_back(a: u8) -> u8
+    ensures { λ r. ⌜ r ≡ reducedInverse 8 29 a ⌝ }
+{
+    if a == 0 {
+        return 0;
+    }
+    power_of(255 - logarithm(a))
+}
+
+// Power k of alpha, k at most the sum of two logarithms.
+fn power_of(k: usize) -> u8
+    requires { ⌜ k < 510 ⌝ }
+    ensures { λ r. ⌜ r ≡ power octets k ⌝ }
+{
+    if k < 255 {
+        POWERS[k]
+    } else {
+        POWERS[k - 255]
+    }
+}
+
+fn logarithm(a: u8) -> usize
+    requires { ⌜ 0 < a ⌝ }
+    ensures below { λ r. ⌜ r < 255 ⌝ }
+    ensures undone { λ r. ⌜ power octets r ≡ a ⌝ }
+{
+    LOGARITHMS[a as usize] as usize
 }

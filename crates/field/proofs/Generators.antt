@@ -1,7 +1,7 @@
--- Tables of powers and logarithms: a test computed over the whole tables makes the reduced product a field. Assumes nothing.
+-- Powers and logarithms: a test computed over their whole tables makes a reduced product a field. Assumes nothing.
 use mathlib.Core.Path.{_≡_, refl, sym, ap, ap₂, _∙_}
-use mathlib.Core.Bool.{Bool, true, false, _&&_}
-use mathlib.Core.List.{List, [], _∷_}
+use mathlib.Core.Bool.{Bool, true, false, cond, _&&_}
+use mathlib.Core.List.{List, [], _∷_, map}
 use mathlib.Core.Logic.{_⊎_, inl, inr}
 use Prim.Native.Nat.{ℕ, zero, suc, _+_, _-_, _*_, _%_, _^_, _<_, _≤_}
 use native.Mathlib.Omega.{arith}
@@ -10,44 +10,54 @@ use lib.Bits.{bitXor, xor-lt}
 use lib.Pow.{pow-mono}
 use lib.Dec.{ltb, eqb}
 use lib.ListN.{length, getD, drop}
-use Rattle.std.proofs.shelf.Lists.{length-drop, getD-drop}
+use Rattle.std.proofs.shelf.Lists.{length-drop, length-map, getD-drop}
 use Rattle.std.proofs.shelf.Bits.{mod-below}
 use Rattle.field.proofs.Sums.{linear-zero}
 use Rattle.std.proofs.shelf.Tests.{and-parts, eqb-true, ltb-true}
 use Rattle.field.specs.Field.{Field, Laws, timesPower, power}
 use Rattle.field.specs.Binary.{binary, reducedTimes, reducedInverse}
 use Rattle.field.proofs.Products as product
-use Rattle.field.proofs.Powers.{Product, power-is, power-first, power-below, power-of-order}
+use Rattle.field.proofs.Powers.{Product, power-is, power-first, power-below, power-add, power-of-order}
 
--- the entries are p, alpha·p, alpha·alpha·p and so on, and the one after the last would be 1 again
-unfoldable pub follow : (ℕ → ℕ) → ℕ → List ℕ → Bool
-follow next p [] = eqb p 1
-follow next p (x ∷ xs) = eqb x p && follow next (next p) xs
+-- p, next p, next (next p) and so on
+unfoldable pub listed : (ℕ → ℕ) → (count p : ℕ) → List ℕ
+listed next zero p = []
+listed next (suc count) p = p ∷ listed next count (next p)
+
+-- where x stands in a list; its length if it does not
+unfoldable pub indexOf : ℕ → List ℕ → ℕ
+indexOf x [] = 0
+indexOf x (y ∷ ys) = cond (eqb x y) 0 (suc (indexOf x ys))
+
+-- the powers 0 to n-2 of alpha, and the logarithms of 0 to n-1
+unfoldable pub powerTable : (k r alpha : ℕ) → List ℕ
+powerTable k r alpha = listed (reducedTimes k r alpha) (2 ^ k - 1) 1
+
+unfoldable pub logTable : (k r alpha : ℕ) → List ℕ
+logTable k r alpha = map (λ a. indexOf a (powerTable k r alpha)) (listed suc (2 ^ k) 0)
 
 -- entry i of the powers has the logarithm i
 unfoldable pub logged : List ℕ → ℕ → List ℕ → Bool
 logged logs i [] = true
 logged logs i (x ∷ xs) = eqb (getD logs x 0) i && logged logs (suc i) xs
 
--- entry a of the logarithms is below `count` and the power there is a
+-- entry a of the logarithms is below the number of powers, and the power there is a
 unfoldable pub raised : List ℕ → ℕ → List ℕ → Bool
 raised powers a [] = true
 raised powers a (l ∷ ls) = ltb l (length powers) && (eqb (getD powers l 0) a && raised powers (suc a) ls)
 
-follow-at : (times : ℕ → ℕ → ℕ) (alpha p : ℕ) (xs : List ℕ) → follow (times alpha) p xs ≡ true
-    → (i : ℕ) → i < length xs → getD xs i 0 ≡ timesPower times p alpha i
-unfolding follow timesPower
-follow-at times alpha p [] test i h = absurd (omega arith)
-follow-at times alpha p (x ∷ xs) test zero h = eqb-true x p (and-parts _ _ test .0)
-follow-at times alpha p (x ∷ xs) test (suc i) h =
-    follow-at times alpha (times alpha p) xs (and-parts _ _ test .1) i (omega (arith, h)) ∙ power-first times p alpha i
+listed-length : (next : ℕ → ℕ) (count p : ℕ) → length (listed next count p) ≡ count
+unfolding listed
+listed-length next zero p = refl
+listed-length next (suc count) p = ap suc (listed-length next count (next p))
 
-follow-end : (times : ℕ → ℕ → ℕ) (alpha p : ℕ) (xs : List ℕ) → follow (times alpha) p xs ≡ true
-    → timesPower times p alpha (length xs) ≡ 1
-unfolding follow timesPower
-follow-end times alpha p [] test = eqb-true p 1 test
-follow-end times alpha p (x ∷ xs) test =
-    sym (power-first times p alpha (length xs)) ∙ follow-end times alpha (times alpha p) xs (and-parts _ _ test .1)
+listed-at : (times : ℕ → ℕ → ℕ) (alpha count p i : ℕ) → i < count
+    → getD (listed (times alpha) count p) i 0 ≡ timesPower times p alpha i
+unfolding listed timesPower
+listed-at times alpha zero p i h = absurd (omega arith)
+listed-at times alpha (suc count) p zero h = refl
+listed-at times alpha (suc count) p (suc i) h =
+    listed-at times alpha count (times alpha p) i (omega (arith, h)) ∙ power-first times p alpha i
 
 logged-at : (logs : List ℕ) (i : ℕ) (xs : List ℕ) → logged logs i xs ≡ true
     → (j : ℕ) → j < length xs → getD logs (getD xs j 0) 0 ≡ i + j
@@ -70,19 +80,17 @@ raised-at powers a (l ∷ ls) test (suc j) h =
     let rest = raised-at powers (suc a) ls last j (omega (arith, h)) in
     (rest .0, omega (arith, rest .1))
 
--- The rule of a pair of tables: what is to be tested of k, r, alpha and them.
-pub record Tables (k r alpha : ℕ) (powers logs : List ℕ) : Type 0 where
+-- What is to be tested of k, r and alpha, by computing the tables.
+pub record Generates (k r alpha : ℕ) : Type 0 where
     pub least : 2 ≤ k
     pub most : k ≤ 8
     pub fits : r < 2 ^ k
     pub alpha-fits : alpha < 2 ^ k
-    pub many : length powers ≡ 2 ^ k - 1
-    pub logs-many : length logs ≡ 2 ^ k
-    pub follows : follow (reducedTimes k r alpha) 1 powers ≡ true
-    pub logs-right : logged logs 0 powers ≡ true
-    pub powers-right : raised powers 1 (drop 1 logs) ≡ true
+    pub around : timesPower (reducedTimes k r) 1 alpha (2 ^ k - 1) ≡ 1
+    pub logs-right : logged (logTable k r alpha) 0 (powerTable k r alpha) ≡ true
+    pub powers-right : raised (powerTable k r alpha) 1 (drop 1 (logTable k r alpha)) ≡ true
 
-module _ {k r alpha : ℕ} {powers logs : List ℕ} (t : Tables k r alpha powers logs) where
+module _ {k r alpha : ℕ} (t : Generates k r alpha) where
     some : 1 ≤ k
     some = omega (arith, t .least)
 
@@ -104,41 +112,62 @@ module _ {k r alpha : ℕ} {powers logs : List ℕ} (t : Tables k r alpha powers
     commutative : (a b : ℕ) → reducedTimes k r a b ≡ reducedTimes k r b a
     commutative = product.commutative some (t .fits)
 
-    raisable : Product (2 ^ k) (reducedTimes k r)
+    pub raisable : Product (2 ^ k) (reducedTimes k r)
     raisable = record { some = omega (arith, size-least); below = times-below; associative = associative; neutral = neutral }
 
-    pub power-at : (i : ℕ) → i < 2 ^ k - 1 → getD powers i 0 ≡ power (binary k r alpha) i
-    power-at i h =
-        follow-at (reducedTimes k r) alpha 1 powers (t .follows) i (omega (arith, t .many, h)) ∙ sym (power-is (binary k r alpha) i)
+    many : length (powerTable k r alpha) ≡ 2 ^ k - 1
+    unfolding powerTable
+    many = listed-length (reducedTimes k r alpha) (2 ^ k - 1) 1
 
-    pub log-of-power : (i : ℕ) → i < 2 ^ k - 1 → getD logs (power (binary k r alpha) i) 0 ≡ i
+    logs-many : length (logTable k r alpha) ≡ 2 ^ k
+    unfolding logTable
+    logs-many = length-map (listed suc (2 ^ k) 0) (λ a. indexOf a (powerTable k r alpha)) ∙ listed-length suc (2 ^ k) 0
+
+    pub power-at : (i : ℕ) → i < 2 ^ k - 1 → getD (powerTable k r alpha) i 0 ≡ power (binary k r alpha) i
+    unfolding powerTable
+    power-at i h = listed-at (reducedTimes k r) alpha (2 ^ k - 1) 1 i h ∙ sym (power-is (binary k r alpha) i)
+
+    pub log-of-power : (i : ℕ) → i < 2 ^ k - 1 → getD (logTable k r alpha) (power (binary k r alpha) i) 0 ≡ i
     log-of-power i h =
-        ap (λ x. getD logs x 0) (sym (power-at i h)) ∙ logged-at logs 0 powers (t .logs-right) i (omega (arith, t .many, h)) ∙ omega arith
+        ap (λ x. getD (logTable k r alpha) x 0) (sym (power-at i h))
+          ∙ logged-at (logTable k r alpha) 0 (powerTable k r alpha) (t .logs-right) i (omega (arith, many, h)) ∙ omega arith
 
     pub power-of-log : (a : ℕ) → 0 < a → a < 2 ^ k
-        → (getD logs a 0 < 2 ^ k - 1) × (power (binary k r alpha) (getD logs a 0) ≡ a)
+        → (getD (logTable k r alpha) a 0 < 2 ^ k - 1) × (power (binary k r alpha) (getD (logTable k r alpha) a 0) ≡ a)
     power-of-log zero h below = absurd (omega arith)
     power-of-log (suc a) h below =
+        let logs : List ℕ = logTable k r alpha in
+        let powers : List ℕ = powerTable k r alpha in
         let left : length (drop 1 logs) ≡ length logs - 1 = length-drop 1 logs in
-        let found = raised-at powers 1 (drop 1 logs) (t .powers-right) a (omega (arith, below, left, t .logs-many)) in
+        let found = raised-at powers 1 (drop 1 logs) (t .powers-right) a (omega (arith, below, left, logs-many)) in
         let there : getD (drop 1 logs) a 0 ≡ getD logs (suc a) 0 = getD-drop 1 logs a 0 ∙ ap (λ x. getD logs x 0) (omega arith) in
-        let low : getD logs (suc a) 0 < 2 ^ k - 1 = omega (arith, found .0, there, t .many) in
+        let low : getD logs (suc a) 0 < 2 ^ k - 1 = omega (arith, found .0, there, many) in
         let is : getD powers (getD (drop 1 logs) a 0) 0 ≡ suc a = found .1 ∙ omega arith in
         (low, sym (power-at (getD logs (suc a) 0) low) ∙ ap (λ x. getD powers x 0) (sym there) ∙ is)
 
-    -- every element but 0 has the power n-1 equal to 1
-    order : timesPower (reducedTimes k r) 1 alpha (2 ^ k - 1) ≡ 1
-    order = ap (timesPower (reducedTimes k r) 1 alpha) (sym (t .many)) ∙ follow-end (reducedTimes k r) alpha 1 powers (t .follows)
+    -- the powers come round again after n-1 steps
+    pub powers-around : (i : ℕ) → power (binary k r alpha) (2 ^ k - 1 + i) ≡ power (binary k r alpha) i
+    powers-around i =
+        power-is (binary k r alpha) (2 ^ k - 1 + i) ∙ sym (power-add raisable alpha (2 ^ k - 1) i)
+          ∙ ap (λ x. reducedTimes k r x (timesPower (reducedTimes k r) 1 alpha i)) (t .around)
+          ∙ neutral (timesPower (reducedTimes k r) 1 alpha i) (power-below raisable alpha i) ∙ sym (power-is (binary k r alpha) i)
 
+    pub powers-add : (i j : ℕ) → reducedTimes k r (power (binary k r alpha) i) (power (binary k r alpha) j) ≡ power (binary k r alpha) (i + j)
+    powers-add i j =
+        ap₂ (reducedTimes k r) (power-is (binary k r alpha) i) (power-is (binary k r alpha) j) ∙ power-add raisable alpha i j
+          ∙ sym (power-is (binary k r alpha) (i + j))
+
+    -- every element but 0 has the power n-1 equal to 1
     whole-power : (a : ℕ) → 0 < a → a < 2 ^ k → timesPower (reducedTimes k r) 1 a (2 ^ k - 1) ≡ 1
     whole-power a h below =
         let log = power-of-log a h below in
-        let raised-to : timesPower (reducedTimes k r) 1 alpha (getD logs a 0) ≡ a = sym (power-is (binary k r alpha) (getD logs a 0)) ∙ log .1 in
+        let raised-to : timesPower (reducedTimes k r) 1 alpha (getD (logTable k r alpha) a 0) ≡ a =
+            sym (power-is (binary k r alpha) (getD (logTable k r alpha) a 0)) ∙ log .1 in
         ap (λ x. timesPower (reducedTimes k r) 1 x (2 ^ k - 1)) (sym raised-to)
-          ∙ power-of-order raisable alpha (2 ^ k - 1) (getD logs a 0) order
+          ∙ power-of-order raisable alpha (2 ^ k - 1) (getD (logTable k r alpha) a 0) (t .around)
 
     pub powers-differ : (i j : ℕ) → i < 2 ^ k - 1 → j < 2 ^ k - 1 → power (binary k r alpha) i ≡ power (binary k r alpha) j → i ≡ j
-    powers-differ i j hi hj same = sym (log-of-power i hi) ∙ ap (λ x. getD logs x 0) same ∙ log-of-power j hj
+    powers-differ i j hi hj same = sym (log-of-power i hi) ∙ ap (λ x. getD (logTable k r alpha) x 0) same ∙ log-of-power j hj
 
     element : (a : ℕ) → a % 2 ^ k < 2 ^ k
     element a = mod-below a (2 ^ k) (omega (arith, size-least))
@@ -185,5 +214,5 @@ module _ {k r alpha : ℕ} {powers logs : List ℕ} (t : Tables k r alpha powers
         inverts = inverts;
         nothing-inverts = nothing-inverts;
         alpha-below = t .alpha-fits;
-        every-power = λ a h below. (getD logs a 0, power-of-log a h below .0, power-of-log a h below .1);
+        every-power = λ a h below. (getD (logTable k r alpha) a 0, power-of-log a h below .0, power-of-log a h below .1);
         powers-differ = powers-differ }
