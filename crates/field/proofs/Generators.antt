@@ -82,137 +82,138 @@ raised-at powers a (l ∷ ls) test (suc j) h =
 
 -- What is to be tested of k, r and alpha, by computing the tables.
 pub record Generates (k r alpha : ℕ) : Type 0 where
-    pub least : 2 ≤ k
-    pub most : k ≤ 8
-    pub fits : r < 2 ^ k
-    pub alpha-fits : alpha < 2 ^ k
-    pub around : timesPower (reducedTimes k r) 1 alpha (2 ^ k - 1) ≡ 1
-    pub logs-right : logged (logTable k r alpha) 0 (powerTable k r alpha) ≡ true
-    pub powers-right : raised (powerTable k r alpha) 1 (drop 1 (logTable k r alpha)) ≡ true
+  pub least : 2 ≤ k
+  pub most : k ≤ 8
+  pub fits : r < 2 ^ k
+  pub alpha-fits : alpha < 2 ^ k
+  pub around : timesPower (reducedTimes k r) 1 alpha (2 ^ k - 1) ≡ 1
+  pub logs-right : logged (logTable k r alpha) 0 (powerTable k r alpha) ≡ true
+  pub powers-right : raised (powerTable k r alpha) 1 (drop 1 (logTable k r alpha)) ≡ true
 
 module _ {k r alpha : ℕ} (t : Generates k r alpha) where
-    some : 1 ≤ k
-    some = omega (arith, t .least)
+  some : 1 ≤ k
+  some = omega (arith, t .least)
 
-    size-least : 4 ≤ 2 ^ k
-    size-least = pow-mono {i = 2} (t .least)
+  size-least : 4 ≤ 2 ^ k
+  size-least = pow-mono {i = 2} (t .least)
 
-    size-most : 2 ^ k ≤ 256
-    size-most = pow-mono {j = 8} (t .most)
+  size-most : 2 ^ k ≤ 256
+  size-most = pow-mono {j = 8} (t .most)
 
-    times-below : (a b : ℕ) → reducedTimes k r a b < 2 ^ k
-    times-below = product.times-below some (t .fits)
+  times-below : (a b : ℕ) → reducedTimes k r a b < 2 ^ k
+  times-below = product.times-below some (t .fits)
 
-    neutral : (a : ℕ) → a < 2 ^ k → reducedTimes k r 1 a ≡ a
-    neutral = product.neutral some (t .fits)
+  neutral : (a : ℕ) → a < 2 ^ k → reducedTimes k r 1 a ≡ a
+  neutral = product.neutral some (t .fits)
 
-    associative : (a b c : ℕ) → reducedTimes k r (reducedTimes k r a b) c ≡ reducedTimes k r a (reducedTimes k r b c)
-    associative = product.associative some (t .fits)
+  associative : (a b c : ℕ) → reducedTimes k r (reducedTimes k r a b) c ≡ reducedTimes k r a (reducedTimes k r b c)
+  associative = product.associative some (t .fits)
 
-    commutative : (a b : ℕ) → reducedTimes k r a b ≡ reducedTimes k r b a
-    commutative = product.commutative some (t .fits)
+  commutative : (a b : ℕ) → reducedTimes k r a b ≡ reducedTimes k r b a
+  commutative = product.commutative some (t .fits)
 
-    pub raisable : Product (2 ^ k) (reducedTimes k r)
-    raisable = record { some = omega (arith, size-least); below = times-below; associative = associative; neutral = neutral }
+  pub raisable : Product (2 ^ k) (reducedTimes k r)
+  raisable = record { some = omega (arith, size-least); below = times-below; associative = associative; neutral = neutral }
 
-    many : length (powerTable k r alpha) ≡ 2 ^ k - 1
-    unfolding powerTable
-    many = listed-length (reducedTimes k r alpha) (2 ^ k - 1) 1
+  many : length (powerTable k r alpha) ≡ 2 ^ k - 1
+  unfolding powerTable
+  many = listed-length (reducedTimes k r alpha) (2 ^ k - 1) 1
 
-    logs-many : length (logTable k r alpha) ≡ 2 ^ k
-    unfolding logTable
-    logs-many = length-map (listed suc (2 ^ k) 0) (λ a. indexOf a (powerTable k r alpha)) ∙ listed-length suc (2 ^ k) 0
+  logs-many : length (logTable k r alpha) ≡ 2 ^ k
+  unfolding logTable
+  logs-many = length-map (listed suc (2 ^ k) 0) (λ a. indexOf a (powerTable k r alpha)) ∙ listed-length suc (2 ^ k) 0
 
-    pub power-at : (i : ℕ) → i < 2 ^ k - 1 → getD (powerTable k r alpha) i 0 ≡ power (binary k r alpha) i
-    unfolding powerTable
-    power-at i h = listed-at (reducedTimes k r) alpha (2 ^ k - 1) 1 i h ∙ sym (power-is (binary k r alpha) i)
+  pub power-at : (i : ℕ) → i < 2 ^ k - 1 → getD (powerTable k r alpha) i 0 ≡ power (binary k r alpha) i
+  unfolding powerTable
+  power-at i h = listed-at (reducedTimes k r) alpha (2 ^ k - 1) 1 i h ∙ sym (power-is (binary k r alpha) i)
 
-    pub log-of-power : (i : ℕ) → i < 2 ^ k - 1 → getD (logTable k r alpha) (power (binary k r alpha) i) 0 ≡ i
-    log-of-power i h =
-        ap (λ x. getD (logTable k r alpha) x 0) (sym (power-at i h))
-          ∙ logged-at (logTable k r alpha) 0 (powerTable k r alpha) (t .logs-right) i (omega (arith, many, h)) ∙ omega arith
+  pub log-of-power : (i : ℕ) → i < 2 ^ k - 1 → getD (logTable k r alpha) (power (binary k r alpha) i) 0 ≡ i
+  log-of-power i h =
+      ap (λ x. getD (logTable k r alpha) x 0) (sym (power-at i h))
+      ∙ logged-at (logTable k r alpha) 0 (powerTable k r alpha) (t .logs-right) i (omega (arith, many, h)) ∙ omega arith
 
-    pub power-of-log : (a : ℕ) → 0 < a → a < 2 ^ k
-        → (getD (logTable k r alpha) a 0 < 2 ^ k - 1) × (power (binary k r alpha) (getD (logTable k r alpha) a 0) ≡ a)
-    power-of-log zero h below = absurd (omega arith)
-    power-of-log (suc a) h below =
-        let logs : List ℕ = logTable k r alpha in
-        let powers : List ℕ = powerTable k r alpha in
-        let left : length (drop 1 logs) ≡ length logs - 1 = length-drop 1 logs in
-        let found = raised-at powers 1 (drop 1 logs) (t .powers-right) a (omega (arith, below, left, logs-many)) in
-        let there : getD (drop 1 logs) a 0 ≡ getD logs (suc a) 0 = getD-drop 1 logs a 0 ∙ ap (λ x. getD logs x 0) (omega arith) in
-        let low : getD logs (suc a) 0 < 2 ^ k - 1 = omega (arith, found .0, there, many) in
-        let is : getD powers (getD (drop 1 logs) a 0) 0 ≡ suc a = found .1 ∙ omega arith in
-        (low, sym (power-at (getD logs (suc a) 0) low) ∙ ap (λ x. getD powers x 0) (sym there) ∙ is)
+  pub power-of-log : (a : ℕ) → 0 < a → a < 2 ^ k
+      → (getD (logTable k r alpha) a 0 < 2 ^ k - 1) × (power (binary k r alpha) (getD (logTable k r alpha) a 0) ≡ a)
+  power-of-log zero h below = absurd (omega arith)
+  power-of-log (suc a) h below =
+      let logs : List ℕ = logTable k r alpha in
+      let powers : List ℕ = powerTable k r alpha in
+      let left : length (drop 1 logs) ≡ length logs - 1 = length-drop 1 logs in
+      let found = raised-at powers 1 (drop 1 logs) (t .powers-right) a (omega (arith, below, left, logs-many)) in
+      let there : getD (drop 1 logs) a 0 ≡ getD logs (suc a) 0 = getD-drop 1 logs a 0 ∙ ap (λ x. getD logs x 0) (omega arith) in
+      let low : getD logs (suc a) 0 < 2 ^ k - 1 = omega (arith, found .0, there, many) in
+      let is : getD powers (getD (drop 1 logs) a 0) 0 ≡ suc a = found .1 ∙ omega arith in
+      (low, sym (power-at (getD logs (suc a) 0) low) ∙ ap (λ x. getD powers x 0) (sym there) ∙ is)
 
-    -- the powers come round again after n-1 steps
-    pub powers-around : (i : ℕ) → power (binary k r alpha) (2 ^ k - 1 + i) ≡ power (binary k r alpha) i
-    powers-around i =
-        power-is (binary k r alpha) (2 ^ k - 1 + i) ∙ sym (power-add raisable alpha (2 ^ k - 1) i)
-          ∙ ap (λ x. reducedTimes k r x (timesPower (reducedTimes k r) 1 alpha i)) (t .around)
-          ∙ neutral (timesPower (reducedTimes k r) 1 alpha i) (power-below raisable alpha i) ∙ sym (power-is (binary k r alpha) i)
+  -- the powers come round again after n-1 steps
+  pub powers-around : (i : ℕ) → power (binary k r alpha) (2 ^ k - 1 + i) ≡ power (binary k r alpha) i
+  powers-around i =
+      power-is (binary k r alpha) (2 ^ k - 1 + i) ∙ sym (power-add raisable alpha (2 ^ k - 1) i)
+      ∙ ap (λ x. reducedTimes k r x (timesPower (reducedTimes k r) 1 alpha i)) (t .around)
+      ∙ neutral (timesPower (reducedTimes k r) 1 alpha i) (power-below raisable alpha i) ∙ sym (power-is (binary k r alpha) i)
 
-    pub powers-add : (i j : ℕ) → reducedTimes k r (power (binary k r alpha) i) (power (binary k r alpha) j) ≡ power (binary k r alpha) (i + j)
-    powers-add i j =
-        ap₂ (reducedTimes k r) (power-is (binary k r alpha) i) (power-is (binary k r alpha) j) ∙ power-add raisable alpha i j
-          ∙ sym (power-is (binary k r alpha) (i + j))
+  pub powers-add : (i j : ℕ) → reducedTimes k r (power (binary k r alpha) i) (power (binary k r alpha) j) ≡ power (binary k r alpha) (i + j)
+  powers-add i j =
+      ap₂ (reducedTimes k r) (power-is (binary k r alpha) i) (power-is (binary k r alpha) j) ∙ power-add raisable alpha i j
+      ∙ sym (power-is (binary k r alpha) (i + j))
 
-    -- every element but 0 has the power n-1 equal to 1
-    whole-power : (a : ℕ) → 0 < a → a < 2 ^ k → timesPower (reducedTimes k r) 1 a (2 ^ k - 1) ≡ 1
-    whole-power a h below =
-        let log = power-of-log a h below in
-        let raised-to : timesPower (reducedTimes k r) 1 alpha (getD (logTable k r alpha) a 0) ≡ a =
-            sym (power-is (binary k r alpha) (getD (logTable k r alpha) a 0)) ∙ log .1 in
-        ap (λ x. timesPower (reducedTimes k r) 1 x (2 ^ k - 1)) (sym raised-to)
-          ∙ power-of-order raisable alpha (2 ^ k - 1) (getD (logTable k r alpha) a 0) (t .around)
+  -- every element but 0 has the power n-1 equal to 1
+  whole-power : (a : ℕ) → 0 < a → a < 2 ^ k → timesPower (reducedTimes k r) 1 a (2 ^ k - 1) ≡ 1
+  whole-power a h below =
+      let log = power-of-log a h below in
+      let raised-to : timesPower (reducedTimes k r) 1 alpha (getD (logTable k r alpha) a 0) ≡ a =
+      sym (power-is (binary k r alpha) (getD (logTable k r alpha) a 0)) ∙ log .1 in
+      ap (λ x. timesPower (reducedTimes k r) 1 x (2 ^ k - 1)) (sym raised-to)
+      ∙ power-of-order raisable alpha (2 ^ k - 1) (getD (logTable k r alpha) a 0) (t .around)
 
-    pub powers-differ : (i j : ℕ) → i < 2 ^ k - 1 → j < 2 ^ k - 1 → power (binary k r alpha) i ≡ power (binary k r alpha) j → i ≡ j
-    powers-differ i j hi hj same = sym (log-of-power i hi) ∙ ap (λ x. getD (logTable k r alpha) x 0) same ∙ log-of-power j hj
+  pub powers-differ : (i j : ℕ) → i < 2 ^ k - 1 → j < 2 ^ k - 1 → power (binary k r alpha) i ≡ power (binary k r alpha) j → i ≡ j
+  powers-differ i j hi hj same = sym (log-of-power i hi) ∙ ap (λ x. getD (logTable k r alpha) x 0) same ∙ log-of-power j hj
 
-    element : (a : ℕ) → a % 2 ^ k < 2 ^ k
-    element a = mod-below a (2 ^ k) (omega (arith, size-least))
+  element : (a : ℕ) → a % 2 ^ k < 2 ^ k
+  element a = mod-below a (2 ^ k) (omega (arith, size-least))
 
-    inverse-below : (a : ℕ) → reducedInverse k r a < 2 ^ k
-    unfolding reducedInverse
-    inverse-below a = power-below raisable a (2 ^ k - 2)
+  inverse-below : (a : ℕ) → reducedInverse k r a < 2 ^ k
+  unfolding reducedInverse
+  inverse-below a = power-below raisable a (2 ^ k - 2)
 
-    stands : (a j : ℕ) → timesPower (reducedTimes k r) 1 (a % 2 ^ k) j ≡ timesPower (reducedTimes k r) 1 a j
-    unfolding timesPower
-    stands a zero = refl
-    stands a (suc j) =
-        product.remainder-stands some (t .fits) a (timesPower (reducedTimes k r) 1 (a % 2 ^ k) j) ∙ ap (reducedTimes k r a) (stands a j)
+  stands : (a j : ℕ) → timesPower (reducedTimes k r) 1 (a % 2 ^ k) j ≡ timesPower (reducedTimes k r) 1 a j
+  unfolding timesPower
+  stands a zero = refl
+  stands a (suc j) =
+      product.remainder-stands some (t .fits) a (timesPower (reducedTimes k r) 1 (a % 2 ^ k) j) ∙ ap (reducedTimes k r a) (stands a j)
 
-    inverts : (a : ℕ) → 0 < a % 2 ^ k → reducedTimes k r a (reducedInverse k r a) ≡ 1
-    unfolding reducedInverse timesPower
-    inverts a h =
-        let one-more : suc (2 ^ k - 2) ≡ 2 ^ k - 1 = omega (arith, size-least) in
-        ap (timesPower (reducedTimes k r) 1 a) one-more ∙ sym (stands a (2 ^ k - 1)) ∙ whole-power (a % 2 ^ k) h (element a)
+  inverts : (a : ℕ) → 0 < a % 2 ^ k → reducedTimes k r a (reducedInverse k r a) ≡ 1
+  unfolding reducedInverse timesPower
+  inverts a h =
+      let one-more : suc (2 ^ k - 2) ≡ 2 ^ k - 1 = omega (arith, size-least) in
+      ap (timesPower (reducedTimes k r) 1 a) one-more ∙ sym (stands a (2 ^ k - 1)) ∙ whole-power (a % 2 ^ k) h (element a)
 
-    nothing-inverts : (a : ℕ) → a % 2 ^ k ≡ 0 → reducedInverse k r a ≡ 0
-    unfolding reducedInverse timesPower
-    nothing-inverts a none =
-        let one-more : 2 ^ k - 2 ≡ suc (2 ^ k - 3) = omega (arith, size-least) in
-        ap (timesPower (reducedTimes k r) 1 a) one-more ∙ nothing (timesPower (reducedTimes k r) 1 a (2 ^ k - 3))
-      where
-        nothing : (x : ℕ) → reducedTimes k r a x ≡ 0
-        nothing x =
-            sym (product.remainder-stands some (t .fits) a x) ∙ ap (λ y. reducedTimes k r y x) none ∙ commutative 0 x
-              ∙ linear-zero (reducedTimes k r x) (product.distributive some (t .fits) x)
+  nothing-inverts : (a : ℕ) → a % 2 ^ k ≡ 0 → reducedInverse k r a ≡ 0
+  unfolding reducedInverse timesPower
+  nothing-inverts a none =
+      let one-more : 2 ^ k - 2 ≡ suc (2 ^ k - 3) = omega (arith, size-least) in
+      ap (timesPower (reducedTimes k r) 1 a) one-more ∙ nothing (timesPower (reducedTimes k r) 1 a (2 ^ k - 3))
+    where
+      nothing : (x : ℕ) → reducedTimes k r a x ≡ 0
+      nothing x =
+          sym (product.remainder-stands some (t .fits) a x) ∙ ap (λ y. reducedTimes k r y x) none ∙ commutative 0 x
+          ∙ linear-zero (reducedTimes k r x) (product.distributive some (t .fits) x)
 
-    pub laws : Laws (binary k r alpha)
-    laws = record {
-        at-least-four = size-least;
-        at-most-octets = size-most;
-        sum-below = xor-lt k;
-        times-below = times-below;
-        remainder-stands = product.remainder-stands some (t .fits);
-        associative = associative;
-        commutative = commutative;
-        distributive = product.distributive some (t .fits);
-        neutral = neutral;
-        inverse-below = inverse-below;
-        inverts = inverts;
-        nothing-inverts = nothing-inverts;
-        alpha-below = t .alpha-fits;
-        every-power = λ a h below. (getD (logTable k r alpha) a 0, power-of-log a h below .0, power-of-log a h below .1);
-        powers-differ = powers-differ }
+  pub laws : Laws (binary k r alpha)
+  laws = record {
+    at-least-four = size-least;
+    at-most-octets = size-most;
+    sum-below = xor-lt k;
+    times-below = times-below;
+    remainder-stands = product.remainder-stands some (t .fits);
+    associative = associative;
+    commutative = commutative;
+    distributive = product.distributive some (t .fits);
+    neutral = neutral;
+    inverse-below = inverse-below;
+    inverts = inverts;
+    nothing-inverts = nothing-inverts;
+    alpha-below = t .alpha-fits;
+    every-power = λ a h below. (getD (logTable k r alpha) a 0, power-of-log a h below .0, power-of-log a h below .1);
+    powers-differ = powers-differ;
+  }

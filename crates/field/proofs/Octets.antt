@@ -8,13 +8,14 @@ use Rattle.field.proofs.Generators.{Generates, listed, indexOf, powerTable, lo
 pub octets-generated : Generates 8 29 2
 unfolding powerTable logTable listed indexOf logged raised doubled timesBits reducedTimes timesPower
 octets-generated = record {
-    least = omega arith;
-    most = omega arith;
-    fits = omega arith;
-    alpha-fits = omega arith;
-    around = refl;
-    logs-right = refl;
-    powers-right = refl }
+  least = omega arith;
+  most = omega arith;
+  fits = omega arith;
+  alpha-fits = omega arith;
+  around = refl;
+  logs-right = refl;
+  powers-right = refl;
+}
 
 pub octet-laws : Laws octets
 octet-laws = laws octets-generated

@@ -53,6 +53,7 @@ bit-times r a b = ap (λ (x : ℕ). x * r) (xor-mod a b 1) ∙ go (a % 2) (b % 2
   where
     none : 0 * r ≡ 0
     none = omega arith
+
     go : (p q : ℕ) → p < 2 → q < 2 → bitXor p q * r ≡ bitXor (p * r) (q * r)
     go zero q hp hq = ap (λ (x : ℕ). x * r) (xor-zero-l q) ∙ sym (ap (λ (x : ℕ). bitXor x (q * r)) none ∙ xor-zero-l (q * r))
     go (suc p) zero hp hq = ap (λ (x : ℕ). x * r) (xor-zero-r (suc p)) ∙ sym (ap (bitXor (suc p * r)) none ∙ xor-zero-r (suc p * r))

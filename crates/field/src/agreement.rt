@@ -5,8 +5,8 @@ ghost use lib.Dec.{eqb};
 ghost use Rattle.field.specs.Samples.{ProductSample};
 use crate::field::Field;
 use crate::shifting::Shifting;
-use crate::table::Table;
 use crate::shifting::ShiftingField;
+use crate::table::Table;
 use crate::table::TableField;
 
 // Whether both makes have one product of a and b: they do, whatever a and b.

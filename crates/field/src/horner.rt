@@ -7,6 +7,12 @@ use crate::field::Field;
 pub fn value_at<F: Field>(polynomial: &[u8], x: u8) -> u8
     ensures { λ r. ⌜ r ≡ value (F·Field .field) (now (polynomial .entry)) x ⌝ }
 {
+    horner::<F>(polynomial, x)
+}
+
+fn horner<F: Field>(polynomial: &[u8], x: u8) -> u8
+    ensures { λ r. ⌜ r ≡ value (F·Field .field) (now (polynomial .entry)) x ⌝ }
+{
     let mut sum = 0;
     for coefficient in polynomial.iter() {
         sum = F::times(x, sum) ^ *coefficient;

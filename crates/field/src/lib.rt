@@ -9,3 +9,6 @@ pub use field::Field;
 pub use horner::value_at;
 pub use shifting::Shifting;
 pub use table::Table;
+
+#[cfg(test)]
+mod tests;

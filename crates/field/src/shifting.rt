@@ -9,13 +9,15 @@ const REDUCED: u8 = 0x1d;
 
 const ALPHA: u8 = 2;
 
+const SIZE: usize = 256;
+
 pub struct Shifting;
 
 pub impl Field for Shifting as ShiftingField {
     ghost field = { octets };
 
     fn size() -> usize {
-        256
+        SIZE
     }
 
     fn times(a: u8, b: u8) -> u8 {

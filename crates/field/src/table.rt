@@ -5,6 +5,8 @@ ghost use Rattle.field.specs.Field.{power};
 ghost use Rattle.field.specs.Binary.{octets, reducedTimes, reducedInverse};
 use crate::field::Field;
 
+const SIZE: usize = 256;
+
 // the powers 0 to 254 of alpha
 const POWERS: &[u8; 255] = b"\
     \x01\x02\x04\x08\x10\x20\x40\x80\x1d\x3a\x74\xe8\xcd\x87\x13\x26\
@@ -49,7 +51,7 @@ pub impl Field for Table as TableField {
     ghost field = { octets };
 
     fn size() -> usize {
-        256
+        SIZE
     }
 
     fn times(a: u8, b: u8) -> u8 {
@@ -88,11 +90,7 @@ fn power_of(k: usize) -> u8
     requires { ⌜ k < 510 ⌝ }
     ensures { λ r. ⌜ r ≡ power octets k ⌝ }
 {
-    if k < 255 {
-        POWERS[k]
-    } else {
-        POWERS[k - 255]
-    }
+    if k < 255 { POWERS[k] } else { POWERS[k - 255] }
 }
 
 fn logarithm(a: u8) -> usize

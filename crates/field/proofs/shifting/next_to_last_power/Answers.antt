@@ -22,10 +22,11 @@ loop-again c =
     let next : i + 1 ≡ suc i = omega arith in
     let long : 2 ^ (i + 1) ≡ 2 ^ i * 2 = ap (λ (x : ℕ). 2 ^ x) next ∙ pow-suc 2 i in
     let exponent : suc (m + m) ≡ 2 ^ (i + 1) - 1 = omega (arith, long, pow-pos i) in
-    let square = ap₂ (reducedTimes 8 29) (c .loop .inv .1) (c .loop .inv .1) ∙ power-add (raisable octets-generated) (c .args .a) m m in
-    (omega (arith, c .loop-test .taken),
+    let square = ap₂ (reducedTimes 8 29) (c .loop .inv .1) (c .loop .inv .1) ∙ power-add (raisable octets-generated) (c .args .a) m m in (
+      omega (arith, c .loop-test .taken),
       c .shift-and-add-power .ensures ∙ ap (reducedTimes 8 29 (c .args .a)) (c .shift-and-add .ensures ∙ square)
-        ∙ ap (timesPower (reducedTimes 8 29) 1 (c .args .a)) exponent)
+          ∙ ap (timesPower (reducedTimes 8 29) 1 (c .args .a)) exponent,
+    )
 
 pub returns : need.returns
 unfolding reducedInverse
@@ -36,4 +37,4 @@ returns c =
     let long : 2 ^ i ≡ 128 = ap (λ (x : ℕ). 2 ^ x) last in
     let exponent : m + m ≡ 254 = omega (arith, long) in
     c .shift-and-add-2 .ensures ∙ ap₂ (reducedTimes 8 29) (c .loop .inv .1) (c .loop .inv .1)
-      ∙ power-add (raisable octets-generated) (c .args .a) m m ∙ ap (timesPower (reducedTimes 8 29) 1 (c .args .a)) exponent
+    ∙ power-add (raisable octets-generated) (c .args .a) m m ∙ ap (timesPower (reducedTimes 8 29) 1 (c .args .a)) exponent

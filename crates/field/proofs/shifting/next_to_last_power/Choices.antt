@@ -5,4 +5,4 @@ use Rattle.field.specs.Binary.{reducedTimes}
 use Rattle.field.proofs.shifting.next_to_last_power.Given as given
 
 abbrev pub Inv-loop : given.InvT-loop
-Inv-loop l = (l .counter ≤ 7) × (l .power ≡ timesPower (reducedTimes 8 29) 1 (l .entry .a) (2 ^ l .counter - 1)) 
+Inv-loop l = (l .counter ≤ 7) × (l .power ≡ timesPower (reducedTimes 8 29) 1 (l .entry .a) (2 ^ l .counter - 1))

@@ -12,6 +12,7 @@ loop-holds c = (omega arith, refl)
 pub loop-again : need.loop-again
 unfolding power
 loop-again c =
-    let next : suc (c .loop .counter) ≡ c .loop .counter + 1 = omega arith in
-    (omega (arith, c .loop-test .taken),
-      c .shift-and-add-power .ensures ∙ ap (reducedTimes 8 29 2) (c .loop .inv .1) ∙ ap (power octets) next)
+    let next : suc (c .loop .counter) ≡ c .loop .counter + 1 = omega arith in (
+      omega (arith, c .loop-test .taken),
+      c .shift-and-add-power .ensures ∙ ap (reducedTimes 8 29 2) (c .loop .inv .1) ∙ ap (power octets) next,
+    )

@@ -9,10 +9,11 @@ use Rattle.field.proofs.table.by_logarithms.Needs.{then-a-eq0·by·then-a-eq0,
 pub returns-then-a-eq0 : need.returns-then-a-eq0
 returns-then-a-eq0 c =
     elim (c .then-a-eq0 .came) [
-        then-a-eq0·by·then-a-eq0 w ↦ sym (ap (λ x. reducedTimes 8 29 x (c .args .b)) (w .if-a-eq0 .taken) ∙ nothing-times octet-laws (c .args .b))
-      | then-a-eq0·by·else-a-eq0·then-b-eq0 w ↦ sym (ap (reducedTimes 8 29 (c .args .a)) (w .if-b-eq0 .taken) ∙ times-nothing octet-laws (c .args .a)) ]
+      | then-a-eq0·by·then-a-eq0 w ↦ sym (ap (λ x. reducedTimes 8 29 x (c .args .b)) (w .if-a-eq0 .taken) ∙ nothing-times octet-laws (c .args .b))
+      | then-a-eq0·by·else-a-eq0·then-b-eq0 w ↦ sym (ap (reducedTimes 8 29 (c .args .a)) (w .if-b-eq0 .taken) ∙ times-nothing octet-laws (c .args .a))
+    ]
 
 pub returns : need.returns
 returns c =
     c .power-of .ensures ∙ sym (powers-add octets-generated (c .logarithm .result) (c .logarithm-2 .result))
-      ∙ ap₂ (reducedTimes 8 29) (c .logarithm .ensures .undone) (c .logarithm-2 .ensures .undone)
+    ∙ ap₂ (reducedTimes 8 29) (c .logarithm .ensures .undone) (c .logarithm-2 .ensures .undone)

@@ -17,4 +17,4 @@ unfolding powerTable listed doubled timesBits reducedTimes
 returns-else-k-lt255 c =
     let around : 255 + (c .args .k - 255) ≡ c .args .k = omega (arith, c .if-k-lt255 .left) in
     power-at octets-generated (c .args .k - 255) (omega (arith, c .pre))
-      ∙ sym (powers-around octets-generated (c .args .k - 255)) ∙ ap (power octets) around
+    ∙ sym (powers-around octets-generated (c .args .k - 255)) ∙ ap (power octets) around

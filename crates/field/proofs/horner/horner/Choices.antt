@@ -1,7 +1,7 @@
 use mathlib.Core.Path.{_≡_}
 use lib.ListN.{take}
 use Rattle.field.specs.Polynomials.{value}
-use Rattle.field.proofs.horner.value_at.Given as given
+use Rattle.field.proofs.horner.horner.Given as given
 
 abbrev pub Inv-loop-coefficient : given.InvT-loop-coefficient
 Inv-loop-coefficient g l =
