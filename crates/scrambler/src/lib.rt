@@ -1,0 +1,1 @@
+// The self-synchronising scrambler of the line.
