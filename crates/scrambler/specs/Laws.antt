@@ -1,0 +1,40 @@
+-- What holds of every message that goes through the scrambler. Assumes nothing.
+use mathlib.Core.Path.{_≡_}
+use mathlib.Core.Bool.{Bool, false}
+use mathlib.Core.List.{List, _++_}
+use Prim.Native.Nat.{ℕ, _+_, _-_, _*_, _≤_, _<_}
+use lib.ListN.{length, getD, drop}
+use Rattle.scrambler.specs.Bits.{_⊕_, messageBits, Octets}
+use Rattle.scrambler.specs.Scrambler.{scrambled, descrambled, after}
+
+-- bit n of a list of bits
+abbrev pub bit : List Bool → ℕ → Bool
+bit bits n = getD bits n false
+
+-- x(n) = m(n) + x(n−18) + x(n−23) for each bit m(n) of a message. The 23 earlier bits stand before those of the message on
+-- the line, so x(n) is bit 23 + n of the line.
+abbrev pub Formula : (earlier : List Bool) (message sent : List ℕ) → Type 0
+Formula earlier message sent =
+    (n : ℕ) → n < 8 * length message
+    → bit (earlier ++ messageBits sent) (23 + n)
+    ≡ bit (messageBits message) n
+      ⊕ (bit (earlier ++ messageBits sent) (23 + n - 18) ⊕ bit (earlier ++ messageBits sent) (23 + n - 23))
+
+-- A receiver with the same earlier bits has the message back, and then the sender's earlier bits again.
+pub record Undone (earlier later : List Bool) (message sent : List ℕ) : Type 0 where
+  pub given : descrambled earlier sent ≡ message
+  pub alike : after earlier sent ≡ later
+
+-- From the same earlier bits the message is sent as what was received, and comes from nothing else.
+pub record Redone (earlier : List Bool) (received message : List ℕ) : Type 0 where
+  pub sent : scrambled earlier message ≡ received
+  pub alone : (other : List ℕ) → Octets other → descrambled earlier other ≡ message → other ≡ received
+
+-- After three octets or more the earlier bits are the same whatever they were before.
+abbrev pub Renewed : (later : List Bool) (sent : List ℕ) → Type 0
+Renewed later sent = 3 ≤ length sent → (earlier : List Bool) → after earlier sent ≡ later
+
+-- A receiver with any other 23 earlier bits has all but the first three octets of the message right.
+abbrev pub Recovers : (received message : List ℕ) → Type 0
+Recovers received message =
+    (earlier : List Bool) → length earlier ≡ 23 → drop 3 (descrambled earlier received) ≡ drop 3 message
