@@ -1,2 +1,4 @@
 pub mod Bits
 pub mod Scrambling
+pub mod Laws
+pub mod Steps

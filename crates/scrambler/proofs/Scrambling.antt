@@ -38,7 +38,7 @@ latest-renewed xs ys h =
     ap (λ (n : ℕ). drop n (xs ++ ys)) places ∙ drop-append-add xs ys (length ys - 23)
 
 -- one bit more after 23 bits
-next : (e : List Bool) (x : Bool) → length e ≡ 23 → length (latest (e ++ x ∷ [])) ≡ 23
+pub next : (e : List Bool) (x : Bool) → length e ≡ 23 → length (latest (e ++ x ∷ [])) ≡ 23
 next e x h = length-latest (e ++ x ∷ []) (simp length-append (omega arith))
 
 one-more : (e : List Bool) (x : Bool) (xs : List Bool) → latest (latest (e ++ x ∷ []) ++ xs) ≡ latest (e ++ x ∷ xs)
@@ -197,3 +197,7 @@ unfolding descrambled after
 descrambled-append e xs ys h =
     through-append descrambledBits length-descrambled-bits e (after e xs) xs ys
       (descrambled-bits-append e (messageBits xs) (messageBits ys) h)
+
+pub scrambled-bits : (e : List Bool) (ms : List ℕ) → messageBits (scrambled e ms) ≡ scrambledBits e (messageBits ms)
+unfolding scrambled
+scrambled-bits = through-bits scrambledBits length-scrambled-bits
