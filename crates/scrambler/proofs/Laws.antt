@@ -11,7 +11,7 @@ use lib.Seq.{drop-at, getD-at, length-take-le}
 use Rattle.std.proofs.shelf.Lists.{drop-all}
 use Rattle.std.proofs.shelf.Tests.{cases-lt}
 use Rattle.scrambler.specs.Bits.{_⊕_, messageBits, octetsOf, Octets}
-use Rattle.scrambler.specs.Laws.{bit, Formula, Recovers, Redone, Undone}
+use Rattle.scrambler.specs.Laws.{bit, Formula, Receiving, Sending}
 use Rattle.scrambler.specs.Scrambler.{latest, taps, scrambledBits, scrambled, descrambled, after}
 use Rattle.scrambler.proofs.Bits.{length-message-bits}
 use Rattle.scrambler.proofs.Scrambling.{descrambled-append, injective, length-descrambled, next, redo, renewed, scrambled-bits, undo}
@@ -57,18 +57,10 @@ formula e ms h n l =
 pub formula-back : (e : List Bool) (xs : List ℕ) → length e ≡ 23 → Octets xs → Formula e (descrambled e xs) xs
 formula-back e xs h k = rw (redo e xs k) at (formula e (descrambled e xs) h)
 
--- ---- there and back
-
-pub undone : (e : List Bool) (ms : List ℕ) → Octets ms → Undone e (after e (scrambled e ms)) ms (scrambled e ms)
-undone e ms h = record { given = undo e ms h; alike = refl }
-
-pub redone : (e : List Bool) (xs : List ℕ) → Octets xs → Redone e xs (descrambled e xs)
-redone e xs h = record { sent = redo e xs h; alone = λ other k same. injective e other xs k h same }
-
 -- ---- recovery
 
-pub recovers : (e : List Bool) (xs : List ℕ) → length e ≡ 23 → Recovers xs (descrambled e xs)
-recovers e xs h e′ h′ = go (cases-lt (length xs) 3)
+pub recovers : (e e′ : List Bool) (xs : List ℕ) → length e ≡ 23 → length e′ ≡ 23 → drop 3 (descrambled e′ xs) ≡ drop 3 (descrambled e xs)
+recovers e e′ xs h h′ = go (cases-lt (length xs) 3)
   where
     short : length xs < 3 → (e : List Bool) → drop 3 (descrambled e xs) ≡ []
     short less e = drop-all 3 (descrambled e xs) (omega (arith, length-descrambled e xs))
@@ -87,3 +79,31 @@ recovers e xs h e′ h′ = go (cases-lt (length xs) 3)
     go (inr more) =
         let three : 3 ≤ length (take 3 xs) = omega (arith, length-take-le 3 xs more) in
         tail more e′ h′ ∙ ap (λ r. descrambled r (drop 3 xs)) (renewed e′ e (take 3 xs) three) ∙ sym (tail more e h)
+
+-- ---- all laws of a message
+
+pub sending : (e e′ : List Bool) (ms xs : List ℕ) → length e ≡ 23 → Octets ms → xs ≡ scrambled e ms → e′ ≡ after e (scrambled e ms)
+    → Sending e e′ ms xs
+sending e e′ ms xs full octets made later =
+    let sent = scrambled e ms in
+    let laws : Sending e (after e sent) ms sent
+    = record {
+      formula = formula e ms full;
+      undone = undo e ms octets;
+      alike = refl;
+      renewed = λ three others. renewed others e sent three;
+    } in
+    rw (made, later) laws
+
+pub receiving : (e e′ : List Bool) (xs ms : List ℕ) → length e ≡ 23 → Octets xs → ms ≡ descrambled e xs → e′ ≡ after e xs
+    → Receiving e e′ xs ms
+receiving e e′ xs ms full octets made later =
+    let laws : Receiving e (after e xs) xs (descrambled e xs)
+    = record {
+      formula = formula-back e xs full octets;
+      redone = redo e xs octets;
+      alone = λ other are same. injective e other xs are octets same;
+      renewed = λ three others. renewed others e xs three;
+      recovers = λ others h. recovers e others xs full h;
+    } in
+    rw (made, later) laws

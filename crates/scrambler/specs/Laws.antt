@@ -20,21 +20,25 @@ Formula earlier message sent =
     ≡ bit (messageBits message) n
       ⊕ (bit (earlier ++ messageBits sent) (23 + n - 18) ⊕ bit (earlier ++ messageBits sent) (23 + n - 23))
 
--- A receiver with the same earlier bits has the message back, and then the sender's earlier bits again.
-pub record Undone (earlier later : List Bool) (message sent : List ℕ) : Type 0 where
-  pub given : descrambled earlier sent ≡ message
-  pub alike : after earlier sent ≡ later
-
--- From the same earlier bits the message is sent as what was received, and comes from nothing else.
-pub record Redone (earlier : List Bool) (received message : List ℕ) : Type 0 where
-  pub sent : scrambled earlier message ≡ received
-  pub alone : (other : List ℕ) → Octets other → descrambled earlier other ≡ message → other ≡ received
-
 -- After three octets or more the earlier bits are the same whatever they were before.
 abbrev pub Renewed : (later : List Bool) (sent : List ℕ) → Type 0
 Renewed later sent = 3 ≤ length sent → (earlier : List Bool) → after earlier sent ≡ later
 
--- A receiver with any other 23 earlier bits has all but the first three octets of the message right.
-abbrev pub Recovers : (received message : List ℕ) → Type 0
-Recovers received message =
-    (earlier : List Bool) → length earlier ≡ 23 → drop 3 (descrambled earlier received) ≡ drop 3 message
+-- A message scrambled with these bits earlier, and those later.
+pub record Sending (earlier later : List Bool) (message sent : List ℕ) : Type 0 where
+  pub formula : Formula earlier message sent
+  -- a receiver with the same earlier bits has the message back, and then the sender's earlier bits again
+  pub undone : descrambled earlier sent ≡ message
+  pub alike : after earlier sent ≡ later
+  pub renewed : Renewed later sent
+
+-- Octets descrambled with these bits earlier, and those later.
+pub record Receiving (earlier later : List Bool) (received message : List ℕ) : Type 0 where
+  pub formula : Formula earlier message received
+  -- from the same earlier bits the message would be sent as what was received
+  pub redone : scrambled earlier message ≡ received
+  -- and no other octets give that message
+  pub alone : (other : List ℕ) → Octets other → descrambled earlier other ≡ message → other ≡ received
+  pub renewed : Renewed later received
+  -- a receiver with any other 23 earlier bits has all but the first three octets of the message right
+  pub recovers : (others : List Bool) → length others ≡ 23 → drop 3 (descrambled others received) ≡ drop 3 message
