@@ -2,3 +2,6 @@
 pub mod earlier;
 
 pub use earlier::Earlier;
+
+#[cfg(test)]
+mod tests;
