@@ -50,8 +50,8 @@ unfolding bitsOf numberOf
 bits-of-number [] = refl
 bits-of-number (b ∷ bs) =
     ap₂ {C = List Bool} (λ x y. x ∷ y)
-      (ap (λ x. eqb x 1) (digits-mod (numberOf bs) (bit-below b)) ∙ bit-back b)
-      (ap (bitsOf (length bs)) (digits-div (numberOf bs) (bit-below b)) ∙ bits-of-number bs)
+    (ap (λ x. eqb x 1) (digits-mod (numberOf bs) (bit-below b)) ∙ bit-back b)
+    (ap (bitsOf (length bs)) (digits-div (numberOf bs) (bit-below b)) ∙ bits-of-number bs)
 
 pub number-below : (bs : List Bool) → numberOf bs < 2 ^ length bs
 unfolding numberOf
@@ -75,8 +75,8 @@ bits-low (suc k) n =
     = ap (λ (x : ℕ). n % x) (pow-suc 2 k) ∙ mod-mul n (pow-pos k) (omega arith) in
     let bit : n % 2 < 2 = mod-lt n (omega arith) in
     ap₂ {C = List Bool} (λ x y. x ∷ y)
-      (ap (λ (x : ℕ). eqb (x % 2) 1) parts ∙ ap (λ x. eqb x 1) (digits-mod (n / 2 % 2 ^ k) bit))
-      (ap (λ (x : ℕ). bitsOf k (x / 2)) parts ∙ ap (bitsOf k) (digits-div (n / 2 % 2 ^ k) bit) ∙ bits-low k (n / 2))
+    (ap (λ (x : ℕ). eqb (x % 2) 1) parts ∙ ap (λ x. eqb x 1) (digits-mod (n / 2 % 2 ^ k) bit))
+    (ap (λ (x : ℕ). bitsOf k (x / 2)) parts ∙ ap (bitsOf k) (digits-div (n / 2 % 2 ^ k) bit) ∙ bits-low k (n / 2))
 
 pub bits-joined : (k j a b : ℕ) → b < 2 ^ k → bitsOf (k + j) (a * 2 ^ k + b) ≡ bitsOf k b ++ bitsOf j a
 unfolding bitsOf
@@ -85,8 +85,8 @@ bits-joined (suc k) j a b h =
     let half : b / 2 < 2 ^ k = omega (arith, pow-suc 2 k, div-add-mod' b 2) in
     ap (λ (x : ℕ). bitsOf x (a * 2 ^ suc k + b)) (suc-add k j)
     ∙ ap₂ {C = List Bool} (λ x y. x ∷ y)
-      (ap (λ x. eqb x 1) (block-odd a k b))
-      (ap (bitsOf (k + j)) (block-half a k b) ∙ bits-joined k j a (b / 2) half)
+    (ap (λ x. eqb x 1) (block-odd a k b))
+    (ap (bitsOf (k + j)) (block-half a k b) ∙ bits-joined k j a (b / 2) half)
 
 -- the sums of bits at each place
 abbrev pub sums : List Bool → List Bool → List Bool
@@ -108,8 +108,8 @@ unfolding bitsOf
 bits-xor zero a b = refl
 bits-xor (suc k) a b =
     ap₂ {C = List Bool} (λ x y. x ∷ y)
-      (ap (λ x. eqb x 1) (xor-mod a b 1) ∙ bit-sum (a % 2) (b % 2) (mod-lt a (omega arith)) (mod-lt b (omega arith)))
-      (ap (bitsOf k) (xor-shr a b 1) ∙ bits-xor k (a / 2) (b / 2))
+    (ap (λ x. eqb x 1) (xor-mod a b 1) ∙ bit-sum (a % 2) (b % 2) (mod-lt a (omega arith)) (mod-lt b (omega arith)))
+    (ap (bitsOf k) (xor-shr a b 1) ∙ bits-xor k (a / 2) (b / 2))
 
 -- ---- bits of messages
 
@@ -144,8 +144,8 @@ unfolding octetsOf messageBits
 octets-of-bits [] h = refl
 octets-of-bits (m ∷ ms) h =
     ap₂ {C = List ℕ} (λ x y. x ∷ y)
-      (ap numberOf (take-at (bitsOf 8 m) (messageBits ms) 8 (length-bits 8 m)) ∙ number-of-bits 8 m (h .0))
-      (ap (octetsOf (length ms)) (drop-at (bitsOf 8 m) (messageBits ms) 8 (length-bits 8 m)) ∙ octets-of-bits ms (h .1))
+    (ap numberOf (take-at (bitsOf 8 m) (messageBits ms) 8 (length-bits 8 m)) ∙ number-of-bits 8 m (h .0))
+    (ap (octetsOf (length ms)) (drop-at (bitsOf 8 m) (messageBits ms) 8 (length-bits 8 m)) ∙ octets-of-bits ms (h .1))
 
 pub bits-of-octets : (n : ℕ) (ys : List Bool) → length ys ≡ 8 * n → messageBits (octetsOf n ys) ≡ ys
 unfolding octetsOf messageBits
@@ -153,8 +153,8 @@ bits-of-octets zero ys h = sym (nil-from-length ys h)
 bits-of-octets (suc n) ys h =
     let eight : length (take 8 ys) ≡ 8 = length-take-le 8 ys (omega arith) in
     ap₂ (λ x y. x ++ y)
-      (ap (λ (k : ℕ). bitsOf k (numberOf (take 8 ys))) (sym eight) ∙ bits-of-number (take 8 ys))
-      (bits-of-octets n (drop 8 ys) (simp length-drop (omega arith)))
+    (ap (λ (k : ℕ). bitsOf k (numberOf (take 8 ys))) (sym eight) ∙ bits-of-number (take 8 ys))
+    (bits-of-octets n (drop 8 ys) (simp length-drop (omega arith)))
     ∙ take-append-drop 8 ys
 
 pub octets-append : (n k : ℕ) (xs ys : List Bool) → length xs ≡ 8 * n → octetsOf (n + k) (xs ++ ys) ≡ octetsOf n xs ++ octetsOf k ys
@@ -163,5 +163,5 @@ octets-append zero k xs ys h = ap₂ octetsOf (zero-add k) (ap (λ r. r ++ ys) (
 octets-append (suc n) k xs ys h =
     ap (λ (x : ℕ). octetsOf x (xs ++ ys)) (suc-add n k)
     ∙ ap₂ {C = List ℕ} (λ x y. x ∷ y)
-      (ap numberOf (take-append-le 8 xs ys (omega arith)))
-      (ap (octetsOf (n + k)) (drop-append-le 8 xs ys (omega arith)) ∙ octets-append n k (drop 8 xs) ys (simp length-drop (omega arith)))
+    (ap numberOf (take-append-le 8 xs ys (omega arith)))
+    (ap (octetsOf (n + k)) (drop-append-le 8 xs ys (omega arith)) ∙ octets-append n k (drop 8 xs) ys (simp length-drop (omega arith)))

@@ -3,14 +3,14 @@ use mathlib.Core.Path.{_≡_, refl, sym, ap, ap₂, _∙_}
 use mathlib.Core.Bool.{Bool, false}
 use mathlib.Core.List.{List, [], _∷_, _++_, append-assoc}
 use mathlib.Core.Logic.{_⊎_, inl, inr}
-use Prim.Native.Nat.{ℕ, zero, suc, _+_, _-_, _*_, _≤_, _<_}
+use Prim.Native.Nat.{ℕ, zero, suc, _+_, _-_, _≤_, _<_}
 use native.Mathlib.Nat.{add-suc}
 use native.Mathlib.Omega.{arith}
 use lib.ListN.{length, drop, take, length-append, take-append-drop, List·getD-append}
 use lib.Seq.{drop-at, getD-at, length-take-le}
 use Rattle.std.proofs.shelf.Lists.{drop-all}
 use Rattle.std.proofs.shelf.Tests.{cases-lt}
-use Rattle.scrambler.specs.Bits.{_⊕_, messageBits, octetsOf, Octets}
+use Rattle.scrambler.specs.Bits.{_⊕_, messageBits, Octets}
 use Rattle.scrambler.specs.Laws.{bit, Formula, Receiving, Sending}
 use Rattle.scrambler.specs.Scrambler.{latest, taps, scrambledBits, scrambled, descrambled, after}
 use Rattle.scrambler.proofs.Bits.{length-message-bits}
@@ -36,7 +36,7 @@ bit-formula e (m ∷ ms) h zero l =
     let xs = scrambledBits (latest (e ++ x ∷ [])) ms in
     getD-at e x xs false 23 h
     ∙ ap (λ t. m ⊕ t)
-      (ap₂ (λ a b. a ⊕ b) (sym (List·getD-append e (x ∷ xs) false 5 (omega arith))) (sym (List·getD-append e (x ∷ xs) false 0 (omega arith))))
+    (ap₂ (λ a b. a ⊕ b) (sym (List·getD-append e (x ∷ xs) false 5 (omega arith))) (sym (List·getD-append e (x ∷ xs) false 0 (omega arith))))
 bit-formula e (m ∷ ms) h (suc n) l =
     let x = m ⊕ taps e in
     let e′ = latest (e ++ x ∷ []) in
@@ -48,7 +48,6 @@ bit-formula e (m ∷ ms) h (suc n) l =
 
 pub formula : (e : List Bool) (ms : List ℕ) → length e ≡ 23 → Formula e ms (scrambled e ms)
 formula e ms h n l =
-    let line = λ (k : ℕ). bit (e ++ messageBits (scrambled e ms)) k in
     let same : e ++ messageBits (scrambled e ms) ≡ e ++ scrambledBits e (messageBits ms) = ap (λ r. e ++ r) (scrambled-bits e ms) in
     let five : 5 + n ≡ 23 + n - 18 = omega arith in
     let zero-on : n ≡ 23 + n - 23 = omega arith in
@@ -72,7 +71,7 @@ recovers e e′ xs h h′ = go (cases-lt (length xs) 3)
         ap (λ r. drop 3 (descrambled e r)) (sym (take-append-drop 3 xs))
         ∙ ap (drop 3) (descrambled-append e first (drop 3 xs) h)
         ∙ drop-at (descrambled e first) (descrambled (after e first) (drop 3 xs)) 3
-          (length-descrambled e first ∙ length-take-le 3 xs more)
+        (length-descrambled e first ∙ length-take-le 3 xs more)
 
     go : (length xs < 3) ⊎ (3 ≤ length xs) → drop 3 (descrambled e′ xs) ≡ drop 3 (descrambled e xs)
     go (inl less) = short less e′ ∙ sym (short less e)

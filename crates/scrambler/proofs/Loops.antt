@@ -26,7 +26,7 @@ scrambling = record {
   more = λ e m ms h. scrambled-append e (m ∷ []) ms h;
   idle = λ e h. after-none e h;
   onward = λ e m ms h. ap (after e) (scrambled-append e (m ∷ []) ms h)
-    ∙ after-append e (scrambled e (m ∷ [])) (scrambled (after e (scrambled e (m ∷ []))) ms);
+      ∙ after-append e (scrambled e (m ∷ [])) (scrambled (after e (scrambled e (m ∷ []))) ms);
 }
 
 pub descrambling : Runs descrambled (λ e xs. xs)
@@ -59,11 +59,11 @@ module _ {F L : List Bool → List ℕ → List ℕ} (runs : Runs F L) where
       let front : take (i + 1) (set now i r) ≡ take i now ++ r ∷ [] = take-more-set now i r l in
       record {
         made = u .made ∙ ap (λ t. take i now ++ F e t) next
-          ∙ ap (λ t. take i now ++ t) (runs .more e m rest full ∙ ap₂ (λ s t. s ++ F t rest) is (sym on))
-          ∙ sym (append-assoc (take i now) (r ∷ []) (F e′ rest))
-          ∙ sym (ap₂ (λ s t. s ++ F e′ t) front left);
+            ∙ ap (λ t. take i now ++ t) (runs .more e m rest full ∙ ap₂ (λ s t. s ++ F t rest) is (sym on))
+            ∙ sym (append-assoc (take i now) (r ∷ []) (F e′ rest))
+            ∙ sym (ap₂ (λ s t. s ++ F e′ t) front left);
         later = u .later ∙ ap (λ t. after e (L e t)) next ∙ runs .onward e m rest full
-          ∙ ap (λ t. after t (L t rest)) (sym on) ∙ ap (λ t. after e′ (L e′ t)) (sym left);
+            ∙ ap (λ t. after t (L t rest)) (sym on) ∙ ap (λ t. after e′ (L e′ t)) (sym left);
         octets = λ h. u .octets (rw next (small, rw left at h));
       }
 

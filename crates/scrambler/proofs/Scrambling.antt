@@ -2,9 +2,9 @@
 use mathlib.Core.Path.{_≡_, refl, sym, ap, ap₂, _∙_}
 use mathlib.Core.Bool.{Bool, true, false}
 use mathlib.Core.List.{List, [], _∷_, _++_, append-assoc, append-nil}
-use Prim.Native.Nat.{ℕ, zero, suc, _+_, _-_, _*_, _≤_, _<_}
+use Prim.Native.Nat.{ℕ, suc, _+_, _-_, _*_, _≤_}
 use native.Mathlib.Omega.{arith}
-use lib.ListN.{length, drop, take, length-append, length-drop}
+use lib.ListN.{length, drop, length-append, length-drop}
 use lib.Seq.{drop-append-le, drop-append-add, drop-drop}
 use Rattle.scrambler.specs.Bits.{_⊕_, bitsOf, numberOf, messageBits, octetsOf, Octets}
 use Rattle.scrambler.specs.Scrambler.{latest, taps, scrambledBits, descrambledBits, scrambled, descrambled, after, Sample}
@@ -85,8 +85,8 @@ scrambled-bits-append e (m ∷ ms) ys h =
     let x = m ⊕ taps e in
     let e′ = latest (e ++ x ∷ []) in
     ap {B = List Bool} (λ r. x ∷ r)
-      (scrambled-bits-append e′ ms ys (next e x h)
-      ∙ ap (λ r. scrambledBits e′ ms ++ scrambledBits r ys) (one-more e x (scrambledBits e′ ms)))
+    (scrambled-bits-append e′ ms ys (next e x h)
+    ∙ ap (λ r. scrambledBits e′ ms ++ scrambledBits r ys) (one-more e x (scrambledBits e′ ms)))
 
 pub descrambled-bits-append : (e xs ys : List Bool) → length e ≡ 23
     → descrambledBits e (xs ++ ys) ≡ descrambledBits e xs ++ descrambledBits (latest (e ++ xs)) ys
@@ -95,8 +95,8 @@ descrambled-bits-append e [] ys h = ap (λ r. descrambledBits r ys) (sym (none-m
 descrambled-bits-append e (x ∷ xs) ys h =
     let e′ = latest (e ++ x ∷ []) in
     ap {B = List Bool} (λ r. (x ⊕ taps e) ∷ r)
-      (descrambled-bits-append e′ xs ys (next e x h)
-      ∙ ap (λ r. descrambledBits e′ xs ++ descrambledBits r ys) (one-more e x xs))
+    (descrambled-bits-append e′ xs ys (next e x h)
+    ∙ ap (λ r. descrambledBits e′ xs ++ descrambledBits r ys) (one-more e x xs))
 
 -- ---- octets, by way of their bits
 
@@ -127,6 +127,10 @@ module _ (F : List Bool → List Bool → List Bool) (kept : (e bs : List Bool) 
       ap₂ octetsOf (length-through e ms) (ap (G e) (through-bits e ms) ∙ back e (messageBits ms)) ∙ octets-of-bits ms h
 
 -- ---- messages keep their length, and are octets
+
+pub scrambled-bits : (e : List Bool) (ms : List ℕ) → messageBits (scrambled e ms) ≡ scrambledBits e (messageBits ms)
+unfolding scrambled
+scrambled-bits = through-bits scrambledBits length-scrambled-bits
 
 pub length-scrambled : (e : List Bool) (ms : List ℕ) → length (scrambled e ms) ≡ length ms
 unfolding scrambled
@@ -182,22 +186,21 @@ after-append e xs ys =
     ∙ ap latest (sym (append-assoc e (messageBits xs) (messageBits ys)))
     ∙ sym (latest-append (e ++ messageBits xs) (messageBits ys))
 
+-- what came before the last three octets is forgotten
+pub renewed-end : (e e′ : List Bool) (xs ys : List ℕ) → 3 ≤ length ys → after e (xs ++ ys) ≡ after e′ ys
+renewed-end e e′ xs ys h = after-append e xs ys ∙ renewed (after e xs) e′ ys h
+
 pub scrambled-append : (e : List Bool) (xs ys : List ℕ) → length e ≡ 23
     → scrambled e (xs ++ ys) ≡ scrambled e xs ++ scrambled (after e (scrambled e xs)) ys
 unfolding scrambled after
 scrambled-append e xs ys h =
     through-append scrambledBits length-scrambled-bits e (after e (scrambled e xs)) xs ys
-      (scrambled-bits-append e (messageBits xs) (messageBits ys) h
-      ∙ ap (λ r. scrambledBits e (messageBits xs) ++ scrambledBits (latest (e ++ r)) (messageBits ys))
-          (sym (through-bits scrambledBits length-scrambled-bits e xs)))
+    (scrambled-bits-append e (messageBits xs) (messageBits ys) h
+    ∙ ap (λ r. scrambledBits e (messageBits xs) ++ scrambledBits (latest (e ++ r)) (messageBits ys)) (sym (scrambled-bits e xs)))
 
 pub descrambled-append : (e : List Bool) (xs ys : List ℕ) → length e ≡ 23
     → descrambled e (xs ++ ys) ≡ descrambled e xs ++ descrambled (after e xs) ys
 unfolding descrambled after
 descrambled-append e xs ys h =
     through-append descrambledBits length-descrambled-bits e (after e xs) xs ys
-      (descrambled-bits-append e (messageBits xs) (messageBits ys) h)
-
-pub scrambled-bits : (e : List Bool) (ms : List ℕ) → messageBits (scrambled e ms) ≡ scrambledBits e (messageBits ms)
-unfolding scrambled
-scrambled-bits = through-bits scrambledBits length-scrambled-bits
+    (descrambled-bits-append e (messageBits xs) (messageBits ys) h)

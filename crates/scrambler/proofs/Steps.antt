@@ -1,14 +1,14 @@
 -- An octet in one step. Assumes nothing.
-use mathlib.Core.Path.{_≡_, refl, sym, ap, ap₂, _∙_}
+use mathlib.Core.Path.{_≡_, refl, sym, ap, _∙_}
 use mathlib.Core.Bool.{Bool}
 use mathlib.Core.List.{List, [], _∷_, _++_}
-use Prim.Native.Nat.{ℕ, _+_, _*_, _/_, _%_, _^_, _<_}
+use Prim.Native.Nat.{ℕ, _+_, _*_, _/_, _^_, _<_}
 use native.Mathlib.Omega.{arith}
 use lib.Bits.{bitAnd, bitOr, bitXor, and-mask, mask-lt, or-lt, or-shifted-r, xor-lt}
 use lib.ListN.{take, drop}
 use lib.Pow.{shr-lt}
 use Rattle.scrambler.specs.Bits.{bitsOf, numberOf, messageBits, octetsOf}
-use Rattle.scrambler.specs.Scrambler.{latest, scrambledBits, descrambledBits, scrambled, descrambled, after}
+use Rattle.scrambler.specs.Scrambler.{scrambledBits, descrambledBits, scrambled, descrambled, after}
 use Rattle.scrambler.proofs.Bits.{bits-joined, bits-low, bits-shifted, bits-xor, number-of-bits, sums}
 
 -- x(n−18) + x(n−23) at eight bits in a row, of 23 earlier bits as a number

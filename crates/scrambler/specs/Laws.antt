@@ -18,7 +18,7 @@ Formula earlier message sent =
     (n : ℕ) → n < 8 * length message
     → bit (earlier ++ messageBits sent) (23 + n)
     ≡ bit (messageBits message) n
-      ⊕ (bit (earlier ++ messageBits sent) (23 + n - 18) ⊕ bit (earlier ++ messageBits sent) (23 + n - 23))
+    ⊕ (bit (earlier ++ messageBits sent) (23 + n - 18) ⊕ bit (earlier ++ messageBits sent) (23 + n - 23))
 
 -- After three octets or more the earlier bits are the same whatever they were before.
 abbrev pub Renewed : (later : List Bool) (sent : List ℕ) → Type 0

@@ -1,8 +1,6 @@
-use mathlib.Core.Path.{sym, ap, _∙_}
 use Prim.Native.Nat.{_≤_, _<_}
 use native.Mathlib.Omega.{arith}
 use lib.ListN.{length, getD}
-use Rattle.scrambler.specs.Scrambler.{after}
 use Rattle.scrambler.specs.States.{earlierBits}
 use Rattle.scrambler.proofs.Laws.{receiving}
 use Rattle.scrambler.proofs.Loops.{all-later, all-made, all-octets, begun, descrambling, turn}
@@ -21,8 +19,8 @@ loop-octet-again c =
     let small : getD now i 0 < 256 = omega arith in
     let one = taken-one s (getD now i 0) (c .mixed .result) small (c .mixed .ensures) in
     turn descrambling (earlierBits (c .args .self .now)) (earlierBits s) (earlierBits (c .followed-by .result)) (c .args .octets .now) now i
-      (c .mixed .result) (c .loop-octet .inv) l (held-bits s) small one
-      (gone-on s (c .followed-by .result) (getD now i 0) (c .followed-by .ensures))
+    (c .mixed .result) (c .loop-octet .inv) l (held-bits s) small one
+    (gone-on s (c .followed-by .result) (getD now i 0) (c .followed-by .ensures))
 
 pub returns : need.returns
 returns c =

@@ -21,8 +21,8 @@ loop-octet-again c =
     let small : getD now i 0 < 256 = omega arith in
     let one = sent-one s (getD now i 0) (c .mixed .result) small (c .mixed .ensures) in
     turn scrambling (earlierBits (c .args .self .now)) (earlierBits s) (earlierBits (c .followed-by .result)) (c .args .octets .now) now i
-      (c .mixed .result) (c .loop-octet .inv) l (held-bits s) small one
-      (gone-on s (c .followed-by .result) (c .mixed .result) (c .followed-by .ensures) ∙ ap (after (earlierBits s)) (sym one))
+    (c .mixed .result) (c .loop-octet .inv) l (held-bits s) small one
+    (gone-on s (c .followed-by .result) (c .mixed .result) (c .followed-by .ensures) ∙ ap (after (earlierBits s)) (sym one))
 
 pub returns : need.returns
 returns c =
