@@ -1,6 +1,6 @@
 -- The laws of scrambled messages. Assumes nothing.
 use mathlib.Core.Path.{_≡_, refl, sym, ap, ap₂, _∙_}
-use mathlib.Core.Bool.{Bool, false}
+use mathlib.Core.Bool.{Bool, true, false, not}
 use mathlib.Core.List.{List, [], _∷_, _++_, append-assoc}
 use mathlib.Core.Logic.{_⊎_, inl, inr}
 use Prim.Native.Nat.{ℕ, zero, suc, _+_, _-_, _≤_, _<_}
@@ -11,9 +11,8 @@ use lib.Seq.{drop-at, getD-at, length-take-le}
 use Rattle.std.proofs.shelf.Lists.{drop-all}
 use Rattle.std.proofs.shelf.Tests.{cases-lt}
 use Rattle.scrambler.specs.Bits.{_⊕_, messageBits, Octets}
-use Rattle.scrambler.specs.Laws.{bit, Formula, Receiving, Sending}
+use Rattle.scrambler.specs.Laws.{bit, Formula, Receiving, Sending, Sums}
 use Rattle.scrambler.specs.Scrambler.{latest, taps, scrambledBits, scrambled, descrambled, after}
-use Rattle.scrambler.proofs.Bits.{length-message-bits}
 use Rattle.scrambler.proofs.Scrambling.{descrambled-append, injective, length-descrambled, next, redo, renewed, scrambled-bits, undo}
 
 -- ---- the formula
@@ -46,12 +45,28 @@ bit-formula e (m ∷ ms) h (suc n) l =
     ∙ bit-formula e′ ms (next e x h) n (omega arith)
     ∙ ap (λ t. bit ms n ⊕ t) (ap₂ (λ a b. a ⊕ b) (sym (ap (bit (e ++ x ∷ xs)) (add-suc 5 n) ∙ on (5 + n))) (sym (on n)))
 
+plus-assoc : (a b c : Bool) → a ⊕ (b ⊕ c) ≡ a ⊕ b ⊕ c
+plus-assoc true true c = both-ways c
+  where
+    both-ways : (c : Bool) → not (not c) ≡ c
+    both-ways true = refl
+    both-ways false = refl
+plus-assoc true false c = refl
+plus-assoc false b c = refl
+
 pub formula : (e : List Bool) (ms : List ℕ) → length e ≡ 23 → Formula e ms (scrambled e ms)
-formula e ms h n l =
-    let same : e ++ messageBits (scrambled e ms) ≡ e ++ scrambledBits e (messageBits ms) = ap (λ r. e ++ r) (scrambled-bits e ms) in
-    let five : 5 + n ≡ 23 + n - 18 = omega arith in
-    let zero-on : n ≡ 23 + n - 23 = omega arith in
-    rw same (rw (← five, ← zero-on) (bit-formula e (messageBits ms) h n (omega (arith, length-message-bits ms))))
+formula e ms h = rw (scrambled-bits e ms) sums
+  where
+    line : List Bool
+    line = e ++ scrambledBits e (messageBits ms)
+
+    sums : Sums line (messageBits ms)
+    sums n l =
+        let tap : 5 + n ≡ 23 + n - 18 = omega arith in
+        let other : n ≡ 23 + n - 23 = omega arith in
+        bit-formula e (messageBits ms) h n l
+        ∙ plus-assoc (bit (messageBits ms) n) (bit line (5 + n)) (bit line n)
+        ∙ ap₂ (λ (a b : ℕ). bit (messageBits ms) n ⊕ bit line a ⊕ bit line b) tap other
 
 pub formula-back : (e : List Bool) (xs : List ℕ) → length e ≡ 23 → Octets xs → Formula e (descrambled e xs) xs
 formula-back e xs h k = rw (redo e xs k) at (formula e (descrambled e xs) h)

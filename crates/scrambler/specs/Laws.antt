@@ -2,7 +2,7 @@
 use mathlib.Core.Path.{_≡_}
 use mathlib.Core.Bool.{Bool, false}
 use mathlib.Core.List.{List, _++_}
-use Prim.Native.Nat.{ℕ, _+_, _-_, _*_, _≤_, _<_}
+use Prim.Native.Nat.{ℕ, _+_, _-_, _≤_, _<_}
 use lib.ListN.{length, getD, drop}
 use Rattle.scrambler.specs.Bits.{_⊕_, messageBits, Octets}
 use Rattle.scrambler.specs.Scrambler.{scrambled, descrambled, after}
@@ -11,14 +11,14 @@ use Rattle.scrambler.specs.Scrambler.{scrambled, descrambled, after}
 abbrev pub bit : List Bool → ℕ → Bool
 bit bits n = getD bits n false
 
--- x(n) = m(n) + x(n−18) + x(n−23) for each bit m(n) of a message. The 23 earlier bits stand before those of the message on
--- the line, so x(n) is bit 23 + n of the line.
+-- x(n) = m(n) + x(n−18) + x(n−23) for each bit m(n) of a message. The 23 earlier bits come first on the line, so x(n) is
+-- bit 23 + n of the line.
+abbrev pub Sums : (line message : List Bool) → Type 0
+Sums line message =
+    (n : ℕ) → n < length message → bit line (23 + n) ≡ bit message n ⊕ bit line (23 + n - 18) ⊕ bit line (23 + n - 23)
+
 abbrev pub Formula : (earlier : List Bool) (message sent : List ℕ) → Type 0
-Formula earlier message sent =
-    (n : ℕ) → n < 8 * length message
-    → bit (earlier ++ messageBits sent) (23 + n)
-    ≡ bit (messageBits message) n
-    ⊕ (bit (earlier ++ messageBits sent) (23 + n - 18) ⊕ bit (earlier ++ messageBits sent) (23 + n - 23))
+Formula earlier message sent = Sums (earlier ++ messageBits sent) (messageBits message)
 
 -- After three octets or more the earlier bits are the same whatever they were before.
 abbrev pub Renewed : (later : List Bool) (sent : List ℕ) → Type 0

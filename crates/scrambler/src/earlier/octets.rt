@@ -5,7 +5,7 @@ ghost use lib.Bits.{bitAnd, bitOr, bitXor};
 use super::Earlier;
 
 impl Earlier {
-    // The sum of each bit of the next octet with the bits 18 and 23 before it.
+    // The sum of each bit of the next octet with the bits 18 and 23 before it. For its first bit these are bits 5 and 0.
     pub(super) fn mixed(self, octet: u8) -> u8
         ensures { λ r. ⌜ r ≡ bitXor octet (bitAnd (bitXor (self .bits / 2 ^ 5) (self .bits)) 255) ⌝ }
     {
