@@ -1,0 +1,4 @@
+pub mod Bits
+pub mod Scrambler
+pub mod Laws
+pub mod States
