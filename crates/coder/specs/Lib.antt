@@ -1,4 +1,6 @@
 pub mod Refusals
 pub mod Misfits
+pub mod Losses
 pub mod Arrivals
 pub mod Sizes
+pub mod Codes
