@@ -14,10 +14,10 @@ use Rattle.std.proofs.shelf.Lists.{length-drop, length-map, getD-drop}
 use Rattle.std.proofs.shelf.Bits.{mod-below}
 use Rattle.field.proofs.Sums.{linear-zero}
 use Rattle.std.proofs.shelf.Tests.{and-parts, eqb-true, ltb-true}
-use Rattle.field.specs.Field.{Field, Laws, timesPower, power}
+use Rattle.field.specs.Field.{Field, Laws, raised, power}
 use Rattle.field.specs.Binary.{binary, reducedTimes, reducedInverse}
 use Rattle.field.proofs.Products as product
-use Rattle.field.proofs.Powers.{Product, power-is, power-first, power-below, power-add, power-of-order}
+use Rattle.field.proofs.Powers.{Product, timesPower, once, one-first, power-below, power-add, power-of-order}
 
 -- p, next p, next (next p) and so on
 unfoldable pub listed : (ℕ → ℕ) → (count p : ℕ) → List ℕ
@@ -42,9 +42,9 @@ logged logs i [] = true
 logged logs i (x ∷ xs) = eqb (getD logs x 0) i && logged logs (suc i) xs
 
 -- entry a of the logarithms is below the number of powers, and the power there is a
-unfoldable pub raised : List ℕ → ℕ → List ℕ → Bool
-raised powers a [] = true
-raised powers a (l ∷ ls) = ltb l (length powers) && (eqb (getD powers l 0) a && raised powers (suc a) ls)
+unfoldable pub undone : List ℕ → ℕ → List ℕ → Bool
+undone powers a [] = true
+undone powers a (l ∷ ls) = ltb l (length powers) && (eqb (getD powers l 0) a && undone powers (suc a) ls)
 
 listed-length : (next : ℕ → ℕ) (count p : ℕ) → length (listed next count p) ≡ count
 unfolding listed
@@ -57,7 +57,7 @@ unfolding listed timesPower
 listed-at times alpha zero p i h = absurd (omega arith)
 listed-at times alpha (suc count) p zero h = refl
 listed-at times alpha (suc count) p (suc i) h =
-    listed-at times alpha count (times alpha p) i (omega (arith, h)) ∙ power-first times p alpha i
+    listed-at times alpha count (times alpha p) i (omega (arith, h)) ∙ one-first times p alpha i
 
 logged-at : (logs : List ℕ) (i : ℕ) (xs : List ℕ) → logged logs i xs ≡ true
     → (j : ℕ) → j < length xs → getD logs (getD xs j 0) 0 ≡ i + j
@@ -66,18 +66,18 @@ logged-at logs i [] test j h = absurd (omega arith)
 logged-at logs i (x ∷ xs) test zero h = omega (arith, eqb-true (getD logs x 0) i (and-parts _ _ test .0))
 logged-at logs i (x ∷ xs) test (suc j) h = omega (arith, logged-at logs (suc i) xs (and-parts _ _ test .1) j (omega (arith, h)))
 
-raised-at : (powers : List ℕ) (a : ℕ) (ls : List ℕ) → raised powers a ls ≡ true → (j : ℕ) → j < length ls
+undone-at : (powers : List ℕ) (a : ℕ) (ls : List ℕ) → undone powers a ls ≡ true → (j : ℕ) → j < length ls
     → (getD ls j 0 < length powers) × (getD powers (getD ls j 0) 0 ≡ a + j)
-unfolding raised
-raised-at powers a [] test j h = absurd (omega arith)
-raised-at powers a (l ∷ ls) test zero h =
-    let parts = and-parts (ltb l (length powers)) (eqb (getD powers l 0) a && raised powers (suc a) ls) test in
-    let there : getD powers l 0 ≡ a = eqb-true (getD powers l 0) a (and-parts (eqb (getD powers l 0) a) (raised powers (suc a) ls) (parts .1) .0) in
+unfolding undone
+undone-at powers a [] test j h = absurd (omega arith)
+undone-at powers a (l ∷ ls) test zero h =
+    let parts = and-parts (ltb l (length powers)) (eqb (getD powers l 0) a && undone powers (suc a) ls) test in
+    let there : getD powers l 0 ≡ a = eqb-true (getD powers l 0) a (and-parts (eqb (getD powers l 0) a) (undone powers (suc a) ls) (parts .1) .0) in
     (ltb-true l (length powers) (parts .0), omega (arith, there))
-raised-at powers a (l ∷ ls) test (suc j) h =
-    let parts = and-parts (ltb l (length powers)) (eqb (getD powers l 0) a && raised powers (suc a) ls) test in
-    let last = and-parts (eqb (getD powers l 0) a) (raised powers (suc a) ls) (parts .1) .1 in
-    let rest = raised-at powers (suc a) ls last j (omega (arith, h)) in
+undone-at powers a (l ∷ ls) test (suc j) h =
+    let parts = and-parts (ltb l (length powers)) (eqb (getD powers l 0) a && undone powers (suc a) ls) test in
+    let last = and-parts (eqb (getD powers l 0) a) (undone powers (suc a) ls) (parts .1) .1 in
+    let rest = undone-at powers (suc a) ls last j (omega (arith, h)) in
     (rest .0, omega (arith, rest .1))
 
 -- What is to be tested of k, r and alpha, by computing the tables.
@@ -86,9 +86,9 @@ pub record Generates (k r alpha : ℕ) : Type 0 where
   pub most : k ≤ 8
   pub fits : r < 2 ^ k
   pub alpha-fits : alpha < 2 ^ k
-  pub around : timesPower (reducedTimes k r) 1 alpha (2 ^ k - 1) ≡ 1
+  pub around : raised (reducedTimes k r) alpha (2 ^ k - 1) ≡ 1
   pub logs-right : logged (logTable k r alpha) 0 (powerTable k r alpha) ≡ true
-  pub powers-right : raised (powerTable k r alpha) 1 (drop 1 (logTable k r alpha)) ≡ true
+  pub powers-right : undone (powerTable k r alpha) 1 (drop 1 (logTable k r alpha)) ≡ true
 
 module _ {k r alpha : ℕ} (t : Generates k r alpha) where
   some : 1 ≤ k
@@ -125,7 +125,7 @@ module _ {k r alpha : ℕ} (t : Generates k r alpha) where
 
   pub power-at : (i : ℕ) → i < 2 ^ k - 1 → getD (powerTable k r alpha) i 0 ≡ power (binary k r alpha) i
   unfolding powerTable
-  power-at i h = listed-at (reducedTimes k r) alpha (2 ^ k - 1) 1 i h ∙ sym (power-is (binary k r alpha) i)
+  power-at i h = listed-at (reducedTimes k r) alpha (2 ^ k - 1) 1 i h ∙ once (reducedTimes k r) alpha i
 
   pub log-of-power : (i : ℕ) → i < 2 ^ k - 1 → getD (logTable k r alpha) (power (binary k r alpha) i) 0 ≡ i
   log-of-power i h =
@@ -139,7 +139,7 @@ module _ {k r alpha : ℕ} (t : Generates k r alpha) where
       let logs : List ℕ = logTable k r alpha in
       let powers : List ℕ = powerTable k r alpha in
       let left : length (drop 1 logs) ≡ length logs - 1 = length-drop 1 logs in
-      let found = raised-at powers 1 (drop 1 logs) (t .powers-right) a (omega (arith, below, left, logs-many)) in
+      let found = undone-at powers 1 (drop 1 logs) (t .powers-right) a (omega (arith, below, left, logs-many)) in
       let there : getD (drop 1 logs) a 0 ≡ getD logs (suc a) 0 = getD-drop 1 logs a 0 ∙ ap (λ x. getD logs x 0) (omega arith) in
       let low : getD logs (suc a) 0 < 2 ^ k - 1 = omega (arith, found .0, there, many) in
       let is : getD powers (getD (drop 1 logs) a 0) 0 ≡ suc a = found .1 ∙ omega arith in
@@ -148,22 +148,17 @@ module _ {k r alpha : ℕ} (t : Generates k r alpha) where
   -- the powers come round again after n-1 steps
   pub powers-around : (i : ℕ) → power (binary k r alpha) (2 ^ k - 1 + i) ≡ power (binary k r alpha) i
   powers-around i =
-      power-is (binary k r alpha) (2 ^ k - 1 + i) ∙ sym (power-add raisable alpha (2 ^ k - 1) i)
-      ∙ ap (λ x. reducedTimes k r x (timesPower (reducedTimes k r) 1 alpha i)) (t .around)
-      ∙ neutral (timesPower (reducedTimes k r) 1 alpha i) (power-below raisable alpha i) ∙ sym (power-is (binary k r alpha) i)
+      sym (power-add raisable alpha (2 ^ k - 1) i) ∙ ap (λ x. reducedTimes k r x (raised (reducedTimes k r) alpha i)) (t .around)
+      ∙ neutral (raised (reducedTimes k r) alpha i) (power-below raisable alpha i)
 
   pub powers-add : (i j : ℕ) → reducedTimes k r (power (binary k r alpha) i) (power (binary k r alpha) j) ≡ power (binary k r alpha) (i + j)
-  powers-add i j =
-      ap₂ (reducedTimes k r) (power-is (binary k r alpha) i) (power-is (binary k r alpha) j) ∙ power-add raisable alpha i j
-      ∙ sym (power-is (binary k r alpha) (i + j))
+  powers-add i j = power-add raisable alpha i j
 
   -- every element but 0 has the power n-1 equal to 1
-  whole-power : (a : ℕ) → 0 < a → a < 2 ^ k → timesPower (reducedTimes k r) 1 a (2 ^ k - 1) ≡ 1
+  whole-power : (a : ℕ) → 0 < a → a < 2 ^ k → raised (reducedTimes k r) a (2 ^ k - 1) ≡ 1
   whole-power a h below =
       let log = power-of-log a h below in
-      let raised-to : timesPower (reducedTimes k r) 1 alpha (getD (logTable k r alpha) a 0) ≡ a =
-      sym (power-is (binary k r alpha) (getD (logTable k r alpha) a 0)) ∙ log .1 in
-      ap (λ x. timesPower (reducedTimes k r) 1 x (2 ^ k - 1)) (sym raised-to)
+      ap (λ x. raised (reducedTimes k r) x (2 ^ k - 1)) (sym (log .1))
       ∙ power-of-order raisable alpha (2 ^ k - 1) (getD (logTable k r alpha) a 0) (t .around)
 
   pub powers-differ : (i j : ℕ) → i < 2 ^ k - 1 → j < 2 ^ k - 1 → power (binary k r alpha) i ≡ power (binary k r alpha) j → i ≡ j
@@ -176,23 +171,23 @@ module _ {k r alpha : ℕ} (t : Generates k r alpha) where
   unfolding reducedInverse
   inverse-below a = power-below raisable a (2 ^ k - 2)
 
-  stands : (a j : ℕ) → timesPower (reducedTimes k r) 1 (a % 2 ^ k) j ≡ timesPower (reducedTimes k r) 1 a j
-  unfolding timesPower
+  stands : (a j : ℕ) → raised (reducedTimes k r) (a % 2 ^ k) j ≡ raised (reducedTimes k r) a j
+  unfolding raised
   stands a zero = refl
   stands a (suc j) =
-      product.remainder-stands some (t .fits) a (timesPower (reducedTimes k r) 1 (a % 2 ^ k) j) ∙ ap (reducedTimes k r a) (stands a j)
+      product.remainder-stands some (t .fits) a (raised (reducedTimes k r) (a % 2 ^ k) j) ∙ ap (reducedTimes k r a) (stands a j)
 
   inverts : (a : ℕ) → 0 < a % 2 ^ k → reducedTimes k r a (reducedInverse k r a) ≡ 1
-  unfolding reducedInverse timesPower
+  unfolding reducedInverse raised
   inverts a h =
       let one-more : suc (2 ^ k - 2) ≡ 2 ^ k - 1 = omega (arith, size-least) in
-      ap (timesPower (reducedTimes k r) 1 a) one-more ∙ sym (stands a (2 ^ k - 1)) ∙ whole-power (a % 2 ^ k) h (element a)
+      ap (raised (reducedTimes k r) a) one-more ∙ sym (stands a (2 ^ k - 1)) ∙ whole-power (a % 2 ^ k) h (element a)
 
   nothing-inverts : (a : ℕ) → a % 2 ^ k ≡ 0 → reducedInverse k r a ≡ 0
-  unfolding reducedInverse timesPower
+  unfolding reducedInverse raised
   nothing-inverts a none =
       let one-more : 2 ^ k - 2 ≡ suc (2 ^ k - 3) = omega (arith, size-least) in
-      ap (timesPower (reducedTimes k r) 1 a) one-more ∙ nothing (timesPower (reducedTimes k r) 1 a (2 ^ k - 3))
+      ap (raised (reducedTimes k r) a) one-more ∙ nothing (raised (reducedTimes k r) a (2 ^ k - 3))
     where
       nothing : (x : ℕ) → reducedTimes k r a x ≡ 0
       nothing x =

@@ -1,12 +1,12 @@
 -- The octets are a field: 02 generates. Assumes nothing.
 use mathlib.Core.Path.{refl}
 use native.Mathlib.Omega.{arith}
-use Rattle.field.specs.Field.{Laws, timesPower}
+use Rattle.field.specs.Field.{Laws, raised}
 use Rattle.field.specs.Binary.{octets, doubled, timesBits, reducedTimes}
-use Rattle.field.proofs.Generators.{Generates, listed, indexOf, powerTable, logTable, logged, raised, laws}
+use Rattle.field.proofs.Generators.{Generates, listed, indexOf, powerTable, logTable, logged, undone, laws}
 
 pub octets-generated : Generates 8 29 2
-unfolding powerTable logTable listed indexOf logged raised doubled timesBits reducedTimes timesPower
+unfolding powerTable logTable listed indexOf logged undone doubled timesBits reducedTimes raised
 octets-generated = record {
   least = omega arith;
   most = omega arith;

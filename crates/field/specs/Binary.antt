@@ -1,7 +1,7 @@
 -- The field of polynomials over two elements, reduced by x^k + r. Bit i of a number is the coefficient of x^i. Assumes nothing.
 use Prim.Native.Nat.{ℕ, zero, suc, _-_, _*_, _/_, _%_, _^_}
 use lib.Bits.{bitXor}
-use Rattle.field.specs.Field.{Field, timesPower}
+use Rattle.field.specs.Field.{Field, raised}
 
 -- x times a: one bit up, and r in the place of x^k
 unfoldable pub doubled : (k r a : ℕ) → ℕ
@@ -17,7 +17,7 @@ reducedTimes k r a b = timesBits k r k (a % 2 ^ k) (b % 2 ^ k)
 
 -- the inverse of a is its power n-2
 unfoldable pub reducedInverse : (k r a : ℕ) → ℕ
-reducedInverse k r a = timesPower (reducedTimes k r) 1 a (2 ^ k - 2)
+reducedInverse k r a = raised (reducedTimes k r) a (2 ^ k - 2)
 
 abbrev pub binary : (k r alpha : ℕ) → Field
 binary k r alpha = record { size = 2 ^ k; times = reducedTimes k r; inverse = reducedInverse k r; alpha = alpha }

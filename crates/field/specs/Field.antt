@@ -9,15 +9,14 @@ pub record Field : Type 0 where
   pub inverse : ℕ → ℕ
   pub alpha : ℕ
 
--- c times x to the power k
-unfoldable pub timesPower : (ℕ → ℕ → ℕ) → (c x k : ℕ) → ℕ
-timesPower times c x zero = c
-timesPower times c x (suc k) = times x (timesPower times c x k)
+-- x to the power k
+unfoldable pub raised : (ℕ → ℕ → ℕ) → (x k : ℕ) → ℕ
+raised times x zero = 1
+raised times x (suc k) = times x (raised times x k)
 
 -- the powers of alpha
-unfoldable pub power : Field → ℕ → ℕ
-power f zero = 1
-power f (suc k) = f .times (f .alpha) (power f k)
+abbrev pub power : Field → ℕ → ℕ
+power f k = raised (f .times) (f .alpha) k
 
 -- What a field owes. A number that is no element stands for its remainder by size, so the laws of the product have no premise.
 pub record Laws (f : Field) : Type 0 where

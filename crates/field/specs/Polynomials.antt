@@ -3,9 +3,9 @@ use mathlib.Core.List.{List, [], _∷_}
 use Prim.Native.Nat.{ℕ}
 use lib.Bits.{bitXor}
 use lib.ListN.{length}
-use Rattle.field.specs.Field.{Field, timesPower}
+use Rattle.field.specs.Field.{Field, raised}
 
 -- the value at x: the sum of each coefficient times its power of x
-unfoldable pub value : Field → List ℕ → ℕ → ℕ
-value f [] x = 0
-value f (c ∷ p) x = bitXor (timesPower (f .times) c x (length p)) (value f p x)
+unfoldable pub valueAt : Field → List ℕ → ℕ → ℕ
+valueAt f [] x = 0
+valueAt f (c ∷ p) x = bitXor (f .times c (raised (f .times) x (length p))) (valueAt f p x)

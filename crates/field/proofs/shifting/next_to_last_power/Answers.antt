@@ -3,7 +3,7 @@ use Prim.Native.Nat.{ℕ, suc, _+_, _-_, _*_, _^_, _≤_}
 use native.Mathlib.Omega.{arith}
 use native.Mathlib.Nat.{pow-suc}
 use lib.Pow.{pow-pos}
-use Rattle.field.specs.Field.{timesPower}
+use Rattle.field.specs.Field.{raised}
 use Rattle.field.specs.Binary.{reducedTimes, reducedInverse}
 use Rattle.field.proofs.Powers.{power-add}
 use Rattle.field.proofs.Generators.{raisable}
@@ -11,11 +11,11 @@ use Rattle.field.proofs.Octets.{octets-generated}
 use Rattle.field.proofs.shifting.next_to_last_power.Needs as need
 
 pub loop-holds : need.loop-holds
-unfolding timesPower
+unfolding raised
 loop-holds c = (omega arith, refl)
 
 pub loop-again : need.loop-again
-unfolding timesPower
+unfolding raised
 loop-again c =
     let i : ℕ = c .loop .counter in
     let m : ℕ = 2 ^ i - 1 in
@@ -25,7 +25,7 @@ loop-again c =
     let square = ap₂ (reducedTimes 8 29) (c .loop .inv .1) (c .loop .inv .1) ∙ power-add (raisable octets-generated) (c .args .a) m m in (
       omega (arith, c .loop-test .taken),
       c .shift-and-add-power .ensures ∙ ap (reducedTimes 8 29 (c .args .a)) (c .shift-and-add .ensures ∙ square)
-          ∙ ap (timesPower (reducedTimes 8 29) 1 (c .args .a)) exponent,
+          ∙ ap (raised (reducedTimes 8 29) (c .args .a)) exponent,
     )
 
 pub returns : need.returns
@@ -37,4 +37,4 @@ returns c =
     let long : 2 ^ i ≡ 128 = ap (λ (x : ℕ). 2 ^ x) last in
     let exponent : m + m ≡ 254 = omega (arith, long) in
     c .shift-and-add-2 .ensures ∙ ap₂ (reducedTimes 8 29) (c .loop .inv .1) (c .loop .inv .1)
-    ∙ power-add (raisable octets-generated) (c .args .a) m m ∙ ap (timesPower (reducedTimes 8 29) 1 (c .args .a)) exponent
+    ∙ power-add (raisable octets-generated) (c .args .a) m m ∙ ap (raised (reducedTimes 8 29) (c .args .a)) exponent

@@ -1,7 +1,7 @@
 use mathlib.Core.Path.{_≡_, sym, ap, ap₂, _∙_}
 use Prim.Native.Nat.{ℕ, _+_, _-_, _%_}
 use native.Mathlib.Omega.{arith}
-use Rattle.field.specs.Field.{power}
+use Rattle.field.specs.Field.{power, raised}
 use Rattle.field.specs.Binary.{octets, reducedTimes, reducedInverse}
 use Rattle.field.proofs.Facts.{inverse-unique}
 use Rattle.field.proofs.Generators.{powers-add, powers-around}
@@ -14,7 +14,7 @@ returns-then-a-eq0 c =
     sym (octet-laws .nothing-inverts (c .args .a) none)
 
 pub returns : need.returns
-unfolding power
+unfolding raised
 returns c =
     let log : ℕ = c .logarithm .result in
     let whole : log + (255 - log) ≡ 255 + 0 = omega (arith, c .logarithm .ensures .below) in

@@ -1,7 +1,7 @@
 use mathlib.Core.Path.{_≡_, ap, sym, _∙_}
 use Prim.Native.Nat.{ℕ, _+_, _-_}
 use native.Mathlib.Omega.{arith}
-use Rattle.field.specs.Field.{power, timesPower}
+use Rattle.field.specs.Field.{power}
 use Rattle.field.specs.Binary.{octets, doubled, timesBits, reducedTimes}
 use Rattle.field.proofs.Generators.{listed, powerTable, power-at, powers-around}
 use Rattle.field.proofs.Octets.{octets-generated}
