@@ -1,2 +1,4 @@
 pub mod Queues
 pub mod Runs
+pub mod Delays
+pub mod Rings
