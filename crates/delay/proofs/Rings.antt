@@ -6,8 +6,8 @@ use Prim.Native.Nat.{ℕ, zero, suc, _+_, _-_, _*_, _%_, _<_, _≤_, min}
 use native.Mathlib.Nat.{mod-add-mod, mod-eq-of-lt, mod-lt, mod-self, mod-zero}
 use native.Mathlib.Omega.{arith}
 use lib.ListN.{length, getD, set, take, drop, replicate, length-drop, length-replicate, length-set, length-take}
-use lib.Seq.{drop-cons, drop-length, drop-nil, drop-set-add, drop-set-lt, set-split, take-nil, take-set-lt, take-suc-set}
-use Rattle.std.proofs.shelf.Lists.{drop-all, drop-replicate, take-replicate, replicate-append-replicate}
+use lib.Seq.{drop-cons, drop-nil, drop-set-add, drop-set-lt, getD-drop, getD-take, set-split, take-nil, take-set-lt, take-suc-set}
+use Rattle.std.proofs.shelf.Lists.{drop-all, drop-more, drop-replicate, replicate-append-replicate, replicate-more, set-at, take-replicate}
 use Rattle.std.proofs.shelf.Tests.{cases-lt}
 use Rattle.delay.specs.Queues.{leaves, stays}
 use Rattle.delay.specs.Triangles.{part, turned}
@@ -69,3 +69,56 @@ module _ {E : Type 0} where
           ap (λ k. turned k (set ring at y)) (e .0)
           ∙ unfold turned in append-nil (set ring at y) ∙ set-split ring at y in-ring ∙ ap (λ xs. take at ring ++ y ∷ xs) none
           ∙ sym (ap (λ xs. (xs ++ take at ring) ++ y ∷ []) none)
+
+  -- one element more is cleared
+  pub fill-more : (n : ℕ) (y : E) (xs : List E) → n < length xs
+      → set (replicate n y ++ drop n xs) n y ≡ replicate (n + 1) y ++ drop (n + 1) xs
+  fill-more n y xs h =
+      ap (λ ys. set (replicate n y ++ ys) n y) (drop-more xs n y h)
+      ∙ set-at (replicate n y) (getD xs n y) (drop (n + 1) xs) y n (length-replicate n y)
+      ∙ sym (append-assoc (replicate n y) (y ∷ []) (drop (n + 1) xs))
+      ∙ ap (λ ys. ys ++ drop (n + 1) xs) (replicate-more n y)
+
+  -- a cleared ring
+  pub ring-cleared : (clock start n all : ℕ) (y : E) → start + n ≤ all → turned (clock % n) (part start n (replicate all y)) ≡ replicate n y
+  ring-cleared clock start n all y h = ap (turned (clock % n)) ring ∙ go (cases-lt 0 n)
+    where
+      ring : part start n (replicate all y) ≡ replicate n y
+      ring = ap (take n) (drop-replicate start all y) ∙ take-replicate n (all - start) y (omega arith)
+      go : (0 < n) ⊎ (n ≤ 0) → turned (clock % n) (replicate n y) ≡ replicate n y
+      go (inl some) = turned-cleared (clock % n) n y (omega (arith, mod-lt clock some))
+      go (inr none) = let e : n ≡ 0 = omega arith in rw e (turned-none (clock % 0))
+
+  -- one push through a ring of some elements
+  module _ (start n clock : ℕ) (memory : List E) (y : E) (some : 0 < n) (within : start + n ≤ length memory) where
+    ring : List E
+    ring = part start n memory
+
+    whole : length ring ≡ n
+    unfolding ring
+    whole = length-part start n memory within
+
+    in-ring : clock % n < length ring
+    in-ring = omega (arith, mod-lt clock some, whole)
+
+    first : (x : E) → turned (clock % n) ring ≡ getD memory (start + clock % n) x ∷ (drop (suc (clock % n)) ring ++ take (clock % n) ring)
+    unfolding ring
+    first x =
+        turned-first (clock % n) ring x in-ring
+        ∙ ap (λ z. z ∷ (drop (suc (clock % n)) ring ++ take (clock % n) ring))
+        (getD-take n (drop start memory) (clock % n) x (mod-lt clock some) ∙ getD-drop start memory (clock % n) x)
+
+    pub pass-left : (x : E) → x ≡ getD memory (start + clock % n) x → x ≡ leaves (turned (clock % n) (part start n memory)) y
+    unfolding leaves ring
+    pass-left x read = read ∙ sym (ap (λ q. leaves q y) (first x))
+
+    pub pass-waits : (x : E) → turned ((clock + 1) % n) (part start n (set memory (start + clock % n) y)) ≡ stays (turned (clock % n) (part start n memory)) y
+    unfolding stays ring
+    pass-waits x =
+        ap (turned ((clock + 1) % n)) (ap (take n) (drop-set-add start memory (clock % n) y) ∙ take-set-lt n (drop start memory) (clock % n) y (mod-lt clock some))
+        ∙ turned-next clock n ring y some whole
+        ∙ sym (ap (λ q. stays q y) (first x))
+
+  -- and through one of none
+  pub pass-none : (start n clock : ℕ) (memory : List E) → n ≡ 0 → turned (clock % n) (part start n memory) ≡ []
+  pass-none start n clock memory e = rw e (turned-none (clock % 0))
