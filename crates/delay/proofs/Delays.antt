@@ -84,7 +84,7 @@ module _ {E : Type 0} where
 
 -- the waits of a branch at both ends make the delay
 pub waits : (I M j : ℕ) → j < I → waitOf (rising I M) j + waitOf (falling I M) j ≡ M * (I - 1)
-unfolding waitOf rankOf
+unfolding waitOf
 waits I M j h = let e : j + (I - 1 - j) ≡ I - 1 = omega arith in sym (mul-add M j (I - 1 - j)) ∙ ap (λ k. M * k) e
 
 pub returns : (E : Type 0) (t : Triangle) (empty : E) → Returns E t empty (delayOf t)

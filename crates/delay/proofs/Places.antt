@@ -8,7 +8,7 @@ use Rattle.std.proofs.shelf.Tests.{cases-lt}
 use Rattle.delay.specs.declared.lengths.Lengths.{Lengths}
 use Rattle.delay.specs.declared.lengths.Lengths.the-variants.{Rising, Falling}
 use Rattle.delay.specs.declared.triangle.Triangle.{Triangle}
-use Rattle.delay.specs.Triangles.{memoryOf, rankIn, rankOf, startAt, waitOf}
+use Rattle.delay.specs.Triangles.{Fills, Owns, memoryOf, rankIn, rankOf, startAt, waitOf}
 
 rank-in-lt : (l : Lengths) (I j : ℕ) → j < I → rankIn l I j < I
 rank-in-lt Rising I j h = h
@@ -20,11 +20,9 @@ rank-in-back Falling I j h = omega arith
 
 -- ranks are numbers of branches in another order, and the order undoes itself
 pub rank-lt : (t : Triangle) (j : ℕ) → j < t .block → rankOf t j < t .block
-unfolding rankOf
 rank-lt t j h = rank-in-lt (t .lengths) (t .block) j h
 
 pub rank-back : (t : Triangle) (j : ℕ) → j < t .block → rankOf t (rankOf t j) ≡ j
-unfolding rankOf
 rank-back t j h = rank-in-back (t .lengths) (t .block) j h
 
 -- a branch ends where the next one begins, and before all later ones
@@ -57,11 +55,47 @@ twice-start M (suc r) =
     let last : M * suc r * (suc r - 1) ≡ M * suc r * r = ap (λ k. M * suc r * k) e in
     omega (arith, twice-start M r, pred-mul M r, wide, last, add-mul (startAt M r) (M * r) 2)
 
-pub fills : (t : Triangle) → startAt (t .step) (t .block) ≡ memoryOf t
-fills t =
+pub end-is : (t : Triangle) → startAt (t .step) (t .block) ≡ memoryOf t
+end-is t =
     let P = startAt (t .step) (t .block) in
     let some : 0 < 2 = omega arith in
     sym (mul-div-cancel P some) ∙ ap (λ k. k / 2) (twice-start (t .step) (t .block))
 
 pub within : (t : Triangle) (rank : ℕ) → rank < t .block → startAt (t .step) rank + t .step * rank ≤ memoryOf t
-within t rank h = omega (arith, ends-before (t .step) rank (t .block) h, fills t)
+within t rank h = omega (arith, ends-before (t .step) rank (t .block) h, end-is t)
+
+-- a place below the end of r branches belongs to one of them
+owner : (M r k : ℕ) → k < startAt M r → (i : ℕ) × (i < r) × (startAt M i ≤ k) × (k < startAt M i + M * i)
+unfolding startAt
+owner M zero k h = absurd (omega arith)
+owner M (suc r) k h = go (owner M r k) (cases-lt k (startAt M r))
+  where
+    go : (k < startAt M r → (i : ℕ) × (i < r) × (startAt M i ≤ k) × (k < startAt M i + M * i)) → (k < startAt M r) ⊎ (startAt M r ≤ k)
+        → (i : ℕ) × (i < suc r) × (startAt M i ≤ k) × (k < startAt M i + M * i)
+    go earlier (inl l) = let found = earlier l in (found .0, omega (arith, found .1), found .2, found .3)
+    go earlier (inr l) = (r, omega arith, l, omega (arith, h, start-suc M r))
+
+-- and to no other
+one-owner : (M a b k : ℕ) → startAt M a ≤ k → k < startAt M a + M * a → startAt M b ≤ k → k < startAt M b + M * b → a ≡ b
+one-owner M a b k a-low a-high b-low b-high = go (cases-lt a b) (cases-lt b a)
+  where
+    go : (a < b) ⊎ (b ≤ a) → (b < a) ⊎ (a ≤ b) → a ≡ b
+    go (inl l) _ = absurd (omega (arith, ends-before M a b l))
+    go (inr l) (inl m) = absurd (omega (arith, ends-before M b a m))
+    go (inr l) (inr m) = omega arith
+
+pub fills : (t : Triangle) → Fills t (memoryOf t)
+unfolding waitOf
+fills t = record {
+  owned = owned;
+  apart = λ i j k h l a b. let e = one-owner (t .step) (rankOf t i) (rankOf t j) k (a .0) (a .1) (b .0) (b .1) in
+    sym (rank-back t i h) ∙ ap (rankOf t) e ∙ rank-back t j l;
+  inside = λ j h. within t (rankOf t j) (rank-lt t j h);
+}
+  where
+    owned : (k : ℕ) → k < memoryOf t → (j : ℕ) × (j < t .block) × Owns t j k
+    owned k h =
+        let found = owner (t .step) (t .block) k (omega (arith, end-is t, h)) in
+        let i = found .0 in
+        let b = rank-back t i (found .1) in
+        (rankOf t i, rank-lt t i (found .1), unfold waitOf in rw b (found .2, found .3))

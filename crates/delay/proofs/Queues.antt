@@ -5,7 +5,7 @@ use Prim.Native.Nat.{ℕ, zero, suc, _<_}
 use native.Mathlib.Omega.{arith}
 use lib.ListN.{length, getD}
 use Rattle.std.proofs.shelf.Lists.{length-push}
-use Rattle.delay.specs.Queues.{Bank, leaves, stays, leaving, staying, others}
+use Rattle.delay.specs.Queues.{Alike, Bank, leaves, stays, leaving, staying, others}
 
 module _ {E : Type 0} where
   -- what leaves and then what waits is what waited and then what enters
@@ -38,7 +38,7 @@ module _ {E : Type 0} where
   staying-at bank (y ∷ b) (suc j) h x = staying-at (others bank) b j (omega arith) x
 
   -- banks that hold the same in each branch of a block
-  pub leaving-same : (a bank : Bank E) (b : List E) → ((j : ℕ) → j < length b → a j ≡ bank j) → leaving a b ≡ leaving bank b
+  pub leaving-same : (a bank : Bank E) (b : List E) → Alike (length b) a bank → leaving a b ≡ leaving bank b
   unfolding leaving
   leaving-same a bank [] same = refl
   leaving-same a bank (x ∷ b) same =

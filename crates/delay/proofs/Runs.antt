@@ -6,7 +6,7 @@ use native.Mathlib.Omega.{arith}
 use lib.ListN.{length, getD, length-append}
 use Rattle.std.specs.shelf.Lists.{All}
 use Rattle.std.proofs.shelf.Lists.{getD-append-left, getD-map, length-map}
-use Rattle.delay.specs.Queues.{Bank, leaves, stays, leaving, staying}
+use Rattle.delay.specs.Queues.{Alike, Bank, leaves, stays, leaving, staying}
 use Rattle.delay.specs.Runs.{Blocks, element, outs, rest}
 use Rattle.delay.proofs.Queues.{leaving-at, leaving-same, length-leaving, length-staying, one-push, staying-at, staying-same}
 
@@ -33,7 +33,7 @@ module _ {E : Type 0} where
   rest-++ bank (c ∷ cs) bs = rest-++ (staying bank c) cs bs
 
   -- runs from banks that hold the same in each of I branches
-  pub outs-same : (I : ℕ) (a bank : Bank E) (bs : List (List E)) → Blocks I bs → ((j : ℕ) → j < I → a j ≡ bank j) → outs a bs ≡ outs bank bs
+  pub outs-same : (I : ℕ) (a bank : Bank E) (bs : List (List E)) → Blocks I bs → Alike I a bank → outs a bs ≡ outs bank bs
   unfolding outs
   outs-same I a bank [] h same = refl
   outs-same I a bank (b ∷ bs) h same =
@@ -49,6 +49,16 @@ module _ {E : Type 0} where
   unfolding rest
   length-rest bank [] j = refl
   length-rest bank (b ∷ bs) j = length-rest (staying bank b) bs j ∙ length-staying bank b j
+
+  -- one block more, from a bank that holds what the run has left
+  pub run-on : (I : ℕ) (bank now next : Bank E) (bs : List (List E)) (b c : List E) → length b ≡ I → Alike I now (rest bank bs)
+      → c ≡ leaving now b → Alike I next (staying now b)
+      → (outs bank (bs ++ b ∷ []) ≡ outs bank bs ++ c ∷ []) × Alike I next (rest bank (bs ++ b ∷ []))
+  unfolding outs rest
+  run-on I bank now next bs b c whole alike left waits = (
+    outs-++ bank bs (b ∷ []) ∙ ap (λ d. outs bank bs ++ d ∷ []) (sym (left ∙ leaving-same now (rest bank bs) b (λ j h. alike j (omega (arith, whole))))),
+    λ j l. waits j l ∙ staying-same now (rest bank bs) b j (alike j l) ∙ sym (ap (λ after. after j) (rest-++ bank bs (b ∷ []))),
+  )
 
   -- element j of each block; x where a block has none
   abbrev pub column : (x : E) (j : ℕ) → List (List E) → List E

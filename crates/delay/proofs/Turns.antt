@@ -9,13 +9,14 @@ use lib.Seq.{drop-drop, getD-set-other, getD-set-same, take-take}
 use Rattle.std.proofs.shelf.Lists.{drop-take, getD-read, same-lists}
 use Rattle.std.proofs.shelf.Tests.{cases-lt}
 use Rattle.delay.specs.declared.triangle.Triangle.{Triangle}
-use Rattle.delay.specs.Queues.{leaves, leaving, stays, staying}
+use Rattle.delay.specs.Queues.{Alike, Bank, leaves, leaving, stays, staying}
 use Rattle.delay.specs.Triangles.{Cleared, memoryOf, part, queue, rankOf, startAt, turned, waitOf}
 use Rattle.delay.specs.Answers.{Empty, Through}
 use Rattle.delay.proofs.Delays.{delays, returns}
 use Rattle.delay.proofs.Places.{ends-before, rank-back, rank-lt, start-suc, within}
 use Rattle.delay.proofs.Queues.{leaving-at, length-leaving, staying-at}
 use Rattle.delay.proofs.Rings.{ring-cleared}
+use Rattle.delay.proofs.Runs.{run-on}
 
 -- the ring of rank r as it turns
 abbrev pub ringed : {E : Type 0} → (M r clock : ℕ) → List E → List E
@@ -121,20 +122,29 @@ module _ {E : Type 0} (t : Triangle) (clock : ℕ) (memory block : List E) where
       → length block ≡ t .block → length block′ ≡ length block → length memory′ ≡ length memory
       → Through E t clock memory memory′ block block′
   end {memory′ = memory′} {block′ = block′} turning whole same size = record {
-    left = same-lists block′ out (same ∙ sym (length-leaving (queue t clock memory) block))
-    (λ j x h. let l : j < t .block = omega (arith, same, whole, h) in
-      turning .left j l (rank-lt t j l) x ∙ sym (leaving-at (queue t clock memory) block j (omega (arith, same, h)) x));
-    waits = λ j l. let in-block : j < length block = omega (arith, whole) in
-      let x = some-of block j in-block in
-      turning .waits j l (rank-lt t j l) x ∙ sym (staying-at (queue t clock memory) block j in-block x);
+    left = left;
+    waits = waits;
     size = size;
+    run = λ bank bs alike. run-on (t .block) bank (queue t clock memory) (queue t (clock + 1) memory′) bs block block′ whole alike left waits;
   }
     where
-      out : List E
-      out = leaving (queue t clock memory) block
+      bank : Bank E
+      bank = queue t clock memory
+      left : block′ ≡ leaving bank block
+      left = same-lists block′ (leaving bank block) (same ∙ sym (length-leaving bank block)) (λ j x h. each j x (omega (arith, same, h)))
+        where
+          each : (j : ℕ) (x : E) → j < length block → getD block′ j x ≡ getD (leaving bank block) j x
+          each j x h =
+              let l : j < t .block = omega (arith, whole) in
+              turning .left j l (rank-lt t j l) x ∙ sym (leaving-at bank block j h x)
       some-of : (xs : List E) (j : ℕ) → j < length xs → E
       some-of [] j h = absurd (omega arith)
       some-of (x ∷ xs) j h = x
+      waits : Alike (t .block) (queue t (clock + 1) memory′) (staying bank block)
+      waits j l =
+          let in-block : j < length block = omega (arith, whole) in
+          let x = some-of block j in-block in
+          turning .waits j l (rank-lt t j l) x ∙ sym (staying-at bank block j in-block x)
 
 -- memory full of one element
 pub opened : (E : Type 0) (t : Triangle) (empty : E) (memory : List E) → memory ≡ replicate (memoryOf t) empty → Empty E t empty memory

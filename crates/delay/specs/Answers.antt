@@ -1,17 +1,17 @@
 -- What the calls of a delay line answer, and what memory and block hold afterwards. Assumes nothing.
 use mathlib.Core.Path.{_≡_}
 use mathlib.Core.Logic.{_≢_}
-use mathlib.Core.List.{List}
-use Prim.Native.Nat.{ℕ, _+_, _<_}
+use mathlib.Core.List.{List, [], _∷_, _++_}
+use Prim.Native.Nat.{ℕ, _+_}
 use lib.ListN.{length, replicate}
 use Rattle.std.specs.declared.result.Result.{Result}
 use Rattle.std.specs.declared.result.Result.the-variants.{Ok, Err}
 use Rattle.coder.specs.declared.misfit.Misfit.{Misfit}
 use Rattle.coder.specs.declared.misfit.Misfit.the-variants.{Frame, Line, Memory}
 use Rattle.delay.specs.declared.triangle.Triangle.{Triangle}
-use Rattle.delay.specs.Queues.{leaving, staying}
+use Rattle.delay.specs.Queues.{Alike, Bank, leaving, staying}
 use Rattle.delay.specs.Triangles.{memoryOf, delayOf, queue, Cleared}
-use Rattle.delay.specs.Runs.{Delays, Returns}
+use Rattle.delay.specs.Runs.{Delays, Returns, outs, rest}
 
 -- Memory as `clear` leaves it, whatever the clock says: each branch is full of the clearing element, and so delays what
 -- is pushed; with its counterpart at the other end, cleared alike, whole blocks come back.
@@ -28,11 +28,15 @@ Clears E t empty before after (Err Memory) = (length before ≢ memoryOf t) × (
 Clears E t empty before after (Err Line) = ⊥
 Clears E t empty before after (Err Frame) = ⊥
 
--- A block pushed through all branches at once. The branches fill memory, so nothing else is in it.
+-- A block pushed through all branches at once. The branches fill memory, so nothing else is in it. Where memory holds
+-- what a run of blocks has left, the block is one more of that run.
 pub record Through (E : Type 0) (t : Triangle) (clock : ℕ) (memory memory′ block block′ : List E) : Type 0 where
   pub left : block′ ≡ leaving (queue t clock memory) block
-  pub waits : (j : ℕ) → j < t .block → queue t (clock + 1) memory′ j ≡ staying (queue t clock memory) block j
+  pub waits : Alike (t .block) (queue t (clock + 1) memory′) (staying (queue t clock memory) block)
   pub size : length memory′ ≡ length memory
+  pub run : (bank : Bank E) (bs : List (List E)) → Alike (t .block) (queue t clock memory) (rest bank bs)
+      → (outs bank (bs ++ block ∷ []) ≡ outs bank bs ++ block′ ∷ [])
+      × Alike (t .block) (queue t (clock + 1) memory′) (rest bank (bs ++ block ∷ []))
 
 -- refusal 6 for a block of another length, else refusal 7 for a memory of another length; both stay as they were
 abbrev pub Pushes : (E : Type 0) → Triangle → (clock : ℕ) → (memory memory′ block block′ : List E) → Result (Unit {0}) Misfit → Type 0

@@ -1,7 +1,8 @@
 -- Queues, each a list with the oldest element first, and what a block does that is pushed through a bank of them.
 -- Assumes nothing.
+use mathlib.Core.Path.{_≡_}
 use mathlib.Core.List.{List, [], _∷_, _++_}
-use Prim.Native.Nat.{ℕ, zero, suc}
+use Prim.Native.Nat.{ℕ, zero, suc, _<_}
 
 -- what leaves a queue when x is pushed into it: the oldest element, or x itself where none waits
 unfoldable pub leaves : {E : Type 0} → List E → E → E
@@ -16,6 +17,10 @@ stays (oldest ∷ rest) x = rest ++ x ∷ []
 -- a queue for each branch
 abbrev pub Bank : Type 0 → Type 0
 Bank E = ℕ → List E
+
+-- two banks hold the same in each of I branches
+abbrev pub Alike : {E : Type 0} → (I : ℕ) → Bank E → Bank E → Type 0
+Alike I bank other = (j : ℕ) → j < I → bank j ≡ other j
 
 -- the branches without the first one
 abbrev pub others : {E : Type 0} → Bank E → Bank E

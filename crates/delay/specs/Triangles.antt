@@ -1,12 +1,12 @@
 -- How long the branches of a delay line are, where each lies in memory, and what waits in it. Assumes nothing.
 use mathlib.Core.Path.{_≡_}
 use mathlib.Core.List.{List, _++_}
-use Prim.Native.Nat.{ℕ, zero, suc, _+_, _-_, _*_, _/_, _%_, _<_}
+use Prim.Native.Nat.{ℕ, zero, suc, _+_, _-_, _*_, _/_, _%_, _≤_, _<_}
 use lib.ListN.{take, drop, replicate}
 use Rattle.delay.specs.declared.lengths.Lengths.{Lengths}
 use Rattle.delay.specs.declared.lengths.Lengths.the-variants.{Rising, Falling}
 use Rattle.delay.specs.declared.triangle.Triangle.{Triangle}
-use Rattle.delay.specs.Queues.{Bank}
+use Rattle.delay.specs.Queues.{Alike, Bank}
 
 -- the delay lines of sender and receiver, with block length I and step M
 abbrev pub rising : (I M : ℕ) → Triangle
@@ -15,12 +15,12 @@ rising I M = record { block = I; step = M; lengths = Rising }
 abbrev pub falling : (I M : ℕ) → Triangle
 falling I M = record { block = I; step = M; lengths = Falling }
 
--- how many branches are shorter than branch j
+-- how many branches lie before branch j in memory, where the shortest lies first
 abbrev pub rankIn : Lengths → (I j : ℕ) → ℕ
 rankIn Rising I j = j
 rankIn Falling I j = I - 1 - j
 
-unfoldable pub rankOf : Triangle → ℕ → ℕ
+abbrev pub rankOf : Triangle → ℕ → ℕ
 rankOf t j = rankIn (t .lengths) (t .block) j
 
 -- n: branch j waits that many blocks
@@ -35,10 +35,20 @@ memoryOf t = t .step * t .block * (t .block - 1) / 2
 abbrev pub delayOf : Triangle → ℕ
 delayOf t = t .step * (t .block - 1)
 
--- The shortest branch lies first in memory and the others behind it, each in M elements more than the one before it.
+-- Each branch begins where the one before it ends, which is M elements shorter.
 unfoldable pub startAt : (M rank : ℕ) → ℕ
 startAt M zero = 0
 startAt M (suc rank) = startAt M rank + M * rank
+
+-- place k of memory belongs to branch j
+abbrev pub Owns : Triangle → (j k : ℕ) → Type 0
+Owns t j k = (startAt (t .step) (rankOf t j) ≤ k) × (k < startAt (t .step) (rankOf t j) + waitOf t j)
+
+-- Each of the P places of memory belongs to just one branch, and no branch goes on behind them.
+pub record Fills (t : Triangle) (P : ℕ) : Type 0 where
+  pub owned : (k : ℕ) → k < P → (j : ℕ) × (j < t .block) × Owns t j k
+  pub apart : (i j k : ℕ) → i < t .block → j < t .block → Owns t i k → Owns t j k → i ≡ j
+  pub inside : (j : ℕ) → j < t .block → startAt (t .step) (rankOf t j) + waitOf t j ≤ P
 
 -- the n elements from a place on
 abbrev pub part : {E : Type 0} → (start n : ℕ) → List E → List E
@@ -55,4 +65,4 @@ queue t clock memory j = turned (clock % waitOf t j) (part (startAt (t .step) (r
 
 -- each branch is full of the clearing element
 abbrev pub Cleared : {E : Type 0} → Triangle → E → Bank E → Type 0
-Cleared t empty bank = (j : ℕ) → j < t .block → bank j ≡ replicate (waitOf t j) empty
+Cleared t empty bank = Alike (t .block) bank (λ j. replicate (waitOf t j) empty)

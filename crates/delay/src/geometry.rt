@@ -2,14 +2,23 @@
 ghost use mathlib.Core.Path.{_≡_};
 ghost use Prim.Native.Nat.{ℕ, _*_, _<_};
 ghost use Rattle.delay.specs.Runs.{Returns};
-ghost use Rattle.delay.specs.Triangles.{memoryOf, delayOf, rankOf};
+ghost use Rattle.delay.specs.Triangles.{Fills, memoryOf, delayOf, rankOf};
 use crate::lengths::Lengths;
 use crate::triangle::Triangle;
 
 impl Triangle {
     // P, the elements of memory that the branches take together.
     pub fn memory(&self) -> usize
-        ensures { λ r. ⌜ r ≡ memoryOf (now (self .entry)) ⌝ }
+        ensures value { λ r. ⌜ r ≡ memoryOf (now (self .entry)) ⌝ }
+        ensures branches { λ r. ⌜ Fills (now (self .entry)) r ⌝ }
+    {
+        self.total()
+    }
+
+    // The branches together: M×I×(I−1)÷2.
+    fn total(&self) -> usize
+        ensures value { λ r. ⌜ r ≡ memoryOf (now (self .entry)) ⌝ }
+        ensures branches { λ r. ⌜ Fills (now (self .entry)) r ⌝ }
     {
         let branches = self.block as usize;
         self.step as usize * branches * branches.saturating_sub(1) / 2

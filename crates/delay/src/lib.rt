@@ -6,3 +6,6 @@ pub mod triangle;
 
 pub use lengths::Lengths;
 pub use triangle::Triangle;
+
+#[cfg(test)]
+mod tests;

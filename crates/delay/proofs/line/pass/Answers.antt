@@ -2,6 +2,7 @@ use mathlib.Core.Path.{refl, ap, sym, _∙_}
 use Prim.Native.Nat.{_+_, _%_, _<_}
 use native.Mathlib.Nat.{mod-lt}
 use native.Mathlib.Omega.{arith}
+use lib.ListN.{drop, take}
 use lib.Seq.{drop-set-lt, take-set-le}
 use Rattle.delay.specs.Queues.{leaves, stays}
 use Rattle.delay.proofs.Rings.{pass-left, pass-none, pass-waits}
@@ -16,8 +17,8 @@ returns-then-wait-eq0 g c =
     record {
       left = sym (ap (λ q. leaves q (c .args .entering)) none);
       waits = next ∙ sym (ap (λ q. stays q (c .args .entering)) none);
-      before = refl;
-      behind = refl;
+      before = refl {a = take (c .args .start) xs};
+      behind = refl {a = drop (c .args .start + c .args .wait) xs};
     }
 
 pub returns : need.returns
