@@ -77,9 +77,9 @@ module _ {E : Type 0} where
   delays t empty bank cleared = record {
     shape = λ bs h. (length-outs bank bs, blocks-outs (t .block) bank bs h);
     elements = λ bs h u j k l x. element-outs (t .block) bank bs h u j k l x ∙ ap (λ q. getD (q ++ column x j bs) u x) (cleared j l)
-    ∙ getD-late (waitOf t j) empty x (column x j bs) u
-    ∙ late-same (waitOf t j) empty (λ v. getD (column x j bs) v x) (λ v. element bs v j x) u
-    (λ m. getD-map (λ b. getD b j x) bs (u - waitOf t j) [] x (omega arith));
+        ∙ getD-late (waitOf t j) empty x (column x j bs) u
+        ∙ late-same (waitOf t j) empty (λ v. getD (column x j bs) v x) (λ v. element bs v j x) u
+        (λ m. getD-map (λ b. getD b j x) bs (u - waitOf t j) [] x (omega arith));
   }
 
 -- the waits of a branch at both ends make the delay
@@ -93,21 +93,29 @@ returns E t empty sender receiver sent received bs h u k =
   where
     I : ℕ
     I = t .block
+
     M : ℕ
     M = t .step
+
     once : List (List E)
     once = outs sender bs
+
     twice : List (List E)
     twice = outs receiver once
+
     due : List E
     due = late (delayOf t) (replicate I empty) (λ v. getD bs v []) u
+
     once-blocks : Blocks I once
     once-blocks = blocks-outs I sender bs h
+
     once-length : length once ≡ length bs
     once-length = length-outs sender bs
+
     twice-length : length (getD twice u []) ≡ I
     twice-length =
         all-getD (λ b. length b ≡ I) twice u [] (omega (arith, length-outs receiver once, once-length, k)) (blocks-outs I receiver once once-blocks)
+
     due-length : length due ≡ I
     due-length = go (cases-lt u (delayOf t))
       where
@@ -116,6 +124,7 @@ returns E t empty sender receiver sent received bs h u k =
         go (inr m) =
             ap length (late-after (delayOf t) (replicate I empty) (λ v. getD bs v []) u m)
             ∙ all-getD (λ b. length b ≡ I) bs (u - delayOf t) [] (omega (arith, k)) h
+
     each : (j : ℕ) (x : E) → j < I → getD (getD twice u []) j x ≡ getD due j x
     each j x l =
         let m = waitOf (falling I M) j in

@@ -89,7 +89,7 @@ unfolding waitOf
 fills t = record {
   owned = owned;
   apart = λ i j k h l a b. let e = one-owner (t .step) (rankOf t i) (rankOf t j) k (a .0) (a .1) (b .0) (b .1) in
-    sym (rank-back t i h) ∙ ap (rankOf t) e ∙ rank-back t j l;
+      sym (rank-back t i h) ∙ ap (rankOf t) e ∙ rank-back t j l;
   inside = λ j h. within t (rankOf t j) (rank-lt t j h);
 }
   where

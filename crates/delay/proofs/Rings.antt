@@ -18,6 +18,7 @@ next clock n some = go (cases-lt (suc (clock % n)) n)
   where
     step : (clock + 1) % n ≡ (clock % n + 1) % n
     step = sym (mod-add-mod clock n 1)
+
     go : (suc (clock % n) < n) ⊎ (n ≤ suc (clock % n)) → ((clock + 1) % n ≡ suc (clock % n)) ⊎ (((clock + 1) % n ≡ 0) × (suc (clock % n) ≡ n))
     go (inl h) = let l : clock % n + 1 < n = omega arith in inl (step ∙ mod-eq-of-lt l ∙ omega arith)
     go (inr h) =
@@ -56,8 +57,10 @@ module _ {E : Type 0} where
     where
       at : ℕ
       at = clock % n
+
       in-ring : at < length ring
       in-ring = omega (arith, mod-lt clock some, whole)
+
       go : ((clock + 1) % n ≡ suc at) ⊎ (((clock + 1) % n ≡ 0) × (suc at ≡ n))
           → turned ((clock + 1) % n) (set ring at y) ≡ (drop (suc at) ring ++ take at ring) ++ y ∷ []
       go (inl e) =
@@ -85,6 +88,7 @@ module _ {E : Type 0} where
     where
       ring : part start n (replicate all y) ≡ replicate n y
       ring = ap (take n) (drop-replicate start all y) ∙ take-replicate n (all - start) y (omega arith)
+
       go : (0 < n) ⊎ (n ≤ 0) → turned (clock % n) (replicate n y) ≡ replicate n y
       go (inl some) = turned-cleared (clock % n) n y (omega (arith, mod-lt clock some))
       go (inr none) = let e : n ≡ 0 = omega arith in rw e (turned-none (clock % 0))

@@ -74,14 +74,19 @@ module _ {E : Type 0} (t : Triangle) (clock : ℕ) (memory block : List E) where
     where
       wait : ℕ
       wait = t .step * r
+
       b-lt : b < t .block
       b-lt = rw b-is (rank-lt t r h)
+
       b-back : rankOf t b ≡ r
       b-back = ap (rankOf t) b-is ∙ rank-back t r h
+
       apart : (j : ℕ) → (rankOf t j ≡ r → ⊥) → j ≢ b
       apart j other e = other (ap (rankOf t) e ∙ b-back)
+
       only : (j : ℕ) → j < t .block → rankOf t j ≡ r → j ≡ b
       only j l e = sym (rank-back t j l) ∙ ap (rankOf t) e ∙ sym b-is
+
       -- the ring of rank r before the push, in the list as it was at first
       ring-now : turned (clock % wait) (part start wait memory′) ≡ queue t clock memory b
       ring-now =
@@ -89,13 +94,16 @@ module _ {E : Type 0} (t : Triangle) (clock : ℕ) (memory block : List E) where
           ∙ ap (λ s. turned (clock % wait) (part s wait memory)) (turning .place)
           ∙ ap (λ k. ringed (t .step) k clock memory) (sym b-back)
           ∙ sym (queue-is t clock memory b)
+
       ring-next : turned ((clock + 1) % wait) (part start wait memory″) ≡ queue t (clock + 1) memory″ b
       ring-next =
           ap (λ s. turned ((clock + 1) % wait) (part s wait memory″)) (turning .place)
           ∙ ap (λ k. ringed (t .step) k (clock + 1) memory″) (sym b-back)
           ∙ sym (queue-is t (clock + 1) memory″ b)
+
       entered : (x : E) → entering ≡ getD block b x
       entered x = getD-read block′ b entering (omega (arith, b-lt, whole)) read x ∙ turning .yet b b-lt (omega (arith, b-back)) x
+
       kept : (j : ℕ) → rankOf t j < r → queue t (clock + 1) memory″ j ≡ queue t (clock + 1) memory′ j
       kept j k =
           let n = t .step * rankOf t j in
@@ -103,15 +111,19 @@ module _ {E : Type 0} (t : Triangle) (clock : ℕ) (memory block : List E) where
           queue-is t (clock + 1) memory″ j
           ∙ ap (turned ((clock + 1) % n)) (same-part s n start memory″ memory′ (omega (arith, turning .place, ends-before (t .step) (rankOf t j) r k)) before)
           ∙ sym (queue-is t (clock + 1) memory′ j)
+
       left-b : (x : E) → getD (set block′ b leaver) b x ≡ leaves (queue t clock memory b) (getD block b x)
       left-b x =
           getD-set-same block′ b leaver x (omega (arith, b-lt, whole)) ∙ leaver-is ∙ ap₂ leaves ring-now (entered x)
+
       left-at : (j : ℕ) → j < t .block → (x : E) → (rankOf t j < r) ⊎ (r ≤ rankOf t j) → rankOf t j < r + 1
           → getD (set block′ b leaver) j x ≡ leaves (queue t clock memory j) (getD block j x)
       left-at j l x (inl k) _ = getD-set-other block′ b j leaver x (apart j (λ e. absurd (omega (arith, e)))) ∙ turning .left j l k x
       left-at j l x (inr k) m = rw (only j l (omega arith)) (left-b x)
+
       waits-b : (x : E) → queue t (clock + 1) memory″ b ≡ stays (queue t clock memory b) (getD block b x)
       waits-b x = sym ring-next ∙ stays-is ∙ ap₂ stays ring-now (entered x)
+
       waits-at : (j : ℕ) → j < t .block → (x : E) → (rankOf t j < r) ⊎ (r ≤ rankOf t j) → rankOf t j < r + 1
           → queue t (clock + 1) memory″ j ≡ stays (queue t clock memory j) (getD block j x)
       waits-at j l x (inl k) _ = kept j k ∙ turning .waits j l k x
@@ -130,6 +142,7 @@ module _ {E : Type 0} (t : Triangle) (clock : ℕ) (memory block : List E) where
     where
       bank : Bank E
       bank = queue t clock memory
+
       left : block′ ≡ leaving bank block
       left = same-lists block′ (leaving bank block) (same ∙ sym (length-leaving bank block)) (λ j x h. each j x (omega (arith, same, h)))
         where
@@ -137,9 +150,11 @@ module _ {E : Type 0} (t : Triangle) (clock : ℕ) (memory block : List E) where
           each j x h =
               let l : j < t .block = omega (arith, whole) in
               turning .left j l (rank-lt t j l) x ∙ sym (leaving-at bank block j h x)
+
       some-of : (xs : List E) (j : ℕ) → j < length xs → E
       some-of [] j h = absurd (omega arith)
       some-of (x ∷ xs) j h = x
+
       waits : Alike (t .block) (queue t (clock + 1) memory′) (staying bank block)
       waits j l =
           let in-block : j < length block = omega (arith, whole) in

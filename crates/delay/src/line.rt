@@ -55,7 +55,12 @@ impl Triangle {
 
     // Pushes a block: each element enters its branch, and what leaves the branch stands in its place. The clock is one more
     // at each block.
-    pub fn push<E: Copy>(&self, clock: usize, memory: &mut [E], block: &mut [E]) -> Result<(), Misfit>
+    pub fn push<E: Copy>(
+        &self,
+        clock: usize,
+        memory: &mut [E],
+        block: &mut [E],
+    ) -> Result<(), Misfit>
         ensures { λ r. ⌜ Pushes E (now (self .entry)) clock (now (memory .entry)) (now (memory .exit)) (now (block .entry)) (now (block .exit)) r ⌝ }
     {
         if block.len() != self.block as usize {

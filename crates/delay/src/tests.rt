@@ -3,6 +3,7 @@ use crate::lengths::Lengths;
 use crate::triangle::Triangle;
 use coder::Arrival;
 use coder::Misfit;
+use coder::arrival::ArrivalPartialEq;
 use std::test::*;
 
 fn line(block: u8, step: u8, lengths: Lengths) -> Triangle {
@@ -47,7 +48,8 @@ fn sizes() -> Result<(), Fail> {
 // Each row: a block that is pushed, and the one that leaves.
 fn octets(line: &Triangle, memory: &mut [u8], rows: &[([u8; 3], [u8; 3])]) -> Result<(), Fail> {
     for (clock, (entering, leaving)) in rows.iter().enumerate() {
-        let mut block = *entering;
+        let [first, second, third] = *entering;
+        let mut block = [first, second, third];
         check_eq(number(line.push(clock, memory, &mut block)), 0)?;
         check(block == *leaving)?;
     }
@@ -70,10 +72,18 @@ fn rising_lengths() -> Result<(), Fail> {
 }
 
 // Branch 0 waits two blocks, branch 1 one block, and branch 2 none.
-fn arrivals(line: &Triangle, memory: &mut [Arrival], rows: &[([u8; 3], [Arrival; 3])]) -> Result<(), Fail> {
+fn arrivals(
+    line: &Triangle,
+    memory: &mut [Arrival],
+    rows: &[([u8; 3], [Arrival; 3])],
+) -> Result<(), Fail> {
     for (clock, (entering, leaving)) in rows.iter().enumerate() {
         let [first, second, third] = *entering;
-        let mut block = [Arrival::Octet(first), Arrival::Octet(second), Arrival::Octet(third)];
+        let mut block = [
+            Arrival::Octet(first),
+            Arrival::Octet(second),
+            Arrival::Octet(third),
+        ];
         check_eq(number(line.push(clock, memory, &mut block)), 0)?;
         check(block == *leaving)?;
     }
@@ -87,9 +97,18 @@ fn falling_lengths() -> Result<(), Fail> {
     check_eq(number(receiver.clear(&mut memory, Arrival::Lost)), 0)?;
     let rows = [
         ([1, 2, 3], [Arrival::Lost, Arrival::Lost, Arrival::Octet(3)]),
-        ([4, 5, 6], [Arrival::Lost, Arrival::Octet(2), Arrival::Octet(6)]),
-        ([7, 8, 9], [Arrival::Octet(1), Arrival::Octet(5), Arrival::Octet(9)]),
-        ([10, 11, 12], [Arrival::Octet(4), Arrival::Octet(8), Arrival::Octet(12)]),
+        (
+            [4, 5, 6],
+            [Arrival::Lost, Arrival::Octet(2), Arrival::Octet(6)],
+        ),
+        (
+            [7, 8, 9],
+            [Arrival::Octet(1), Arrival::Octet(5), Arrival::Octet(9)],
+        ),
+        (
+            [10, 11, 12],
+            [Arrival::Octet(4), Arrival::Octet(8), Arrival::Octet(12)],
+        ),
     ];
     arrivals(&receiver, &mut memory, &rows)
 }
@@ -103,7 +122,10 @@ fn both(sent: &mut [u8], received: &mut [u8]) -> Result<(), Fail> {
     for clock in 0..10u8 {
         let mut block = [clock + 1, clock + 101, clock + 201];
         check_eq(number(sender.push(clock as usize, sent, &mut block)), 0)?;
-        check_eq(number(receiver.push(clock as usize, received, &mut block)), 0)?;
+        check_eq(
+            number(receiver.push(clock as usize, received, &mut block)),
+            0,
+        )?;
         if clock < 4 {
             check(block == [0; 3])?;
         } else {
@@ -120,8 +142,15 @@ fn both_ends() -> Result<(), Fail> {
 
 #[test]
 fn no_delay() -> Result<(), Fail> {
-    octets(&line(3, 0, Lengths::Falling), &mut [], &[([1, 2, 3], [1, 2, 3]), ([4, 5, 6], [4, 5, 6])])?;
-    check_eq(number(line(0, 9, Lengths::Rising).push(5, &mut [0; 0], &mut [])), 0)
+    octets(
+        &line(3, 0, Lengths::Falling),
+        &mut [],
+        &[([1, 2, 3], [1, 2, 3]), ([4, 5, 6], [4, 5, 6])],
+    )?;
+    check_eq(
+        number(line(0, 9, Lengths::Rising).push(5, &mut [0; 0], &mut [])),
+        0,
+    )
 }
 
 // A block of another length is refused first.
