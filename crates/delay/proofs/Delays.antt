@@ -1,19 +1,17 @@
 -- Runs from cleared branches: one end, and both in a row. Assumes nothing.
-use mathlib.Core.Path.{_≡_, refl, sym, ap, ap₂, _∙_}
+use mathlib.Core.Path.{_≡_, sym, ap, _∙_}
 use mathlib.Core.Logic.{_⊎_, inl, inr}
-use mathlib.Core.Bool.{true, false, cond}
-use mathlib.Core.List.{List, [], _∷_, _++_}
-use Prim.Native.Nat.{ℕ, zero, suc, _+_, _-_, _*_, _<_, _≤_}
+use mathlib.Core.List.{List, [], _++_}
+use Prim.Native.Nat.{ℕ, _+_, _-_, _*_, _<_, _≤_}
 use native.Mathlib.Nat.{mul-add}
 use native.Mathlib.Omega.{arith}
-use lib.Dec.{ltb}
 use lib.ListN.{length, getD, replicate}
 use Rattle.std.proofs.shelf.Elements.{all-getD}
 use Rattle.std.proofs.shelf.Lists.{getD-append-left, getD-append-right, getD-map, getD-replicate, length-replicate, same-lists}
 use Rattle.std.proofs.shelf.Tests.{cases-lt, le-ltb, lt-ltb}
 use Rattle.delay.specs.declared.triangle.Triangle.{Triangle}
 use Rattle.delay.specs.Queues.{Bank}
-use Rattle.delay.specs.Triangles.{rising, falling, rankOf, waitOf, delayOf, Cleared}
+use Rattle.delay.specs.Triangles.{rising, falling, waitOf, delayOf, Cleared}
 use Rattle.delay.specs.Runs.{Blocks, Delays, Returns, element, late, outs}
 use Rattle.delay.proofs.Runs.{blocks-outs, column, element-outs, length-outs}
 

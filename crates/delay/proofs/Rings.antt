@@ -1,11 +1,11 @@
 -- A branch as a ring in memory. Assumes nothing.
-use mathlib.Core.Path.{_≡_, refl, sym, ap, ap₂, _∙_}
+use mathlib.Core.Path.{_≡_, sym, ap, ap₂, _∙_}
 use mathlib.Core.Logic.{_⊎_, inl, inr}
 use mathlib.Core.List.{List, [], _∷_, _++_, append-nil, append-assoc}
-use Prim.Native.Nat.{ℕ, zero, suc, _+_, _-_, _*_, _%_, _<_, _≤_, min}
-use native.Mathlib.Nat.{mod-add-mod, mod-eq-of-lt, mod-lt, mod-self, mod-zero}
+use Prim.Native.Nat.{ℕ, suc, _+_, _-_, _%_, _<_, _≤_}
+use native.Mathlib.Nat.{mod-add-mod, mod-eq-of-lt, mod-lt, mod-self}
 use native.Mathlib.Omega.{arith}
-use lib.ListN.{length, getD, set, take, drop, replicate, length-drop, length-replicate, length-set, length-take}
+use lib.ListN.{length, getD, set, take, drop, replicate, length-drop, length-replicate, length-take}
 use lib.Seq.{drop-cons, drop-nil, drop-set-add, drop-set-lt, getD-drop, getD-take, set-split, take-nil, take-set-lt, take-suc-set}
 use Rattle.std.proofs.shelf.Lists.{drop-all, drop-more, drop-replicate, replicate-append-replicate, replicate-more, set-at, take-replicate}
 use Rattle.std.proofs.shelf.Tests.{cases-lt}

@@ -1,12 +1,11 @@
 -- Whole runs. Assumes nothing.
 use mathlib.Core.Path.{_≡_, refl, sym, ap, ap₂, _∙_}
 use mathlib.Core.List.{List, [], _∷_, _++_, map, append-nil, append-assoc}
-use Prim.Native.Nat.{ℕ, zero, suc, _+_, _<_}
+use Prim.Native.Nat.{ℕ, suc, _+_, _<_}
 use native.Mathlib.Omega.{arith}
-use lib.ListN.{length, getD, length-append}
-use Rattle.std.specs.shelf.Lists.{All}
+use lib.ListN.{length, getD}
 use Rattle.std.proofs.shelf.Lists.{getD-append-left, getD-map, length-map}
-use Rattle.delay.specs.Queues.{Alike, Bank, leaves, stays, leaving, staying}
+use Rattle.delay.specs.Queues.{Alike, Bank, leaving, staying}
 use Rattle.delay.specs.Runs.{Blocks, element, outs, rest}
 use Rattle.delay.proofs.Queues.{leaving-at, leaving-same, length-leaving, length-staying, one-push, staying-at, staying-same}
 

@@ -2,7 +2,7 @@
 use mathlib.Core.Path.{_≡_, refl, sym, ap, ap₂, _∙_}
 use mathlib.Core.Logic.{_⊎_, _≢_, inl, inr}
 use mathlib.Core.List.{List, [], _∷_}
-use Prim.Native.Nat.{ℕ, zero, suc, _+_, _*_, _%_, _<_, _≤_}
+use Prim.Native.Nat.{ℕ, _+_, _*_, _%_, _<_, _≤_}
 use native.Mathlib.Omega.{arith}
 use lib.ListN.{length, getD, set, take, drop, replicate}
 use lib.Seq.{drop-drop, getD-set-other, getD-set-same, take-take}
@@ -11,7 +11,7 @@ use Rattle.std.proofs.shelf.Tests.{cases-lt}
 use Rattle.delay.specs.declared.triangle.Triangle.{Triangle}
 use Rattle.delay.specs.Queues.{Alike, Bank, leaves, leaving, stays, staying}
 use Rattle.delay.specs.Triangles.{Cleared, memoryOf, part, queue, rankOf, startAt, turned, waitOf}
-use Rattle.delay.specs.Answers.{Empty, Through}
+use Rattle.delay.specs.Answers.{Opened, Through}
 use Rattle.delay.proofs.Delays.{delays, returns}
 use Rattle.delay.proofs.Places.{ends-before, rank-back, rank-lt, start-suc, within}
 use Rattle.delay.proofs.Queues.{leaving-at, length-leaving, staying-at}
@@ -162,7 +162,7 @@ module _ {E : Type 0} (t : Triangle) (clock : ℕ) (memory block : List E) where
           turning .waits j l (rank-lt t j l) x ∙ sym (staying-at bank block j in-block x)
 
 -- memory full of one element
-pub opened : (E : Type 0) (t : Triangle) (empty : E) (memory : List E) → memory ≡ replicate (memoryOf t) empty → Empty E t empty memory
+pub opened : (E : Type 0) (t : Triangle) (empty : E) (memory : List E) → memory ≡ replicate (memoryOf t) empty → Opened E t empty memory
 opened E t empty memory full = record {
   held = full;
   cleared = cleared;

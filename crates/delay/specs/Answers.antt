@@ -15,7 +15,7 @@ use Rattle.delay.specs.Runs.{Delays, Returns, outs, rest}
 
 -- Memory as `clear` leaves it, whatever the clock says: each branch is full of the clearing element, and so delays what
 -- is pushed; with its counterpart at the other end, cleared alike, whole blocks come back.
-pub record Empty (E : Type 0) (t : Triangle) (empty : E) (after : List E) : Type 0 where
+pub record Opened (E : Type 0) (t : Triangle) (empty : E) (after : List E) : Type 0 where
   pub held : after ≡ replicate (memoryOf t) empty
   pub cleared : (clock : ℕ) → Cleared t empty (queue t clock after)
   pub delays : (clock : ℕ) → Delays E t empty (queue t clock after)
@@ -23,7 +23,7 @@ pub record Empty (E : Type 0) (t : Triangle) (empty : E) (after : List E) : Type
 
 -- refusal 7 for a memory of another length, which stays as it was
 abbrev pub Clears : (E : Type 0) → Triangle → E → (before after : List E) → Result (Unit {0}) Misfit → Type 0
-Clears E t empty before after (Ok _) = (length before ≡ memoryOf t) × Empty E t empty after
+Clears E t empty before after (Ok _) = (length before ≡ memoryOf t) × Opened E t empty after
 Clears E t empty before after (Err Memory) = (length before ≢ memoryOf t) × (after ≡ before)
 Clears E t empty before after (Err Line) = ⊥
 Clears E t empty before after (Err Frame) = ⊥

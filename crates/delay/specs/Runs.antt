@@ -8,7 +8,7 @@ use lib.ListN.{length, getD, replicate}
 use Rattle.std.specs.shelf.Lists.{All}
 use Rattle.delay.specs.declared.triangle.Triangle.{Triangle}
 use Rattle.delay.specs.Queues.{Bank, leaving, staying}
-use Rattle.delay.specs.Triangles.{rising, falling, waitOf, delayOf, Cleared}
+use Rattle.delay.specs.Triangles.{rising, falling, waitOf, Cleared}
 
 -- the blocks that leave while blocks are pushed one after another
 unfoldable pub outs : {E : Type 0} → Bank E → List (List E) → List (List E)

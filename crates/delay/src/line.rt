@@ -2,7 +2,7 @@
 ghost use mathlib.Core.Path.{_≡_};
 ghost use Prim.Native.Nat.{ℕ, _+_, _*_, _%_, _<_, _≤_};
 ghost use lib.ListN.{length, take, drop, replicate};
-ghost use Rattle.delay.specs.Answers.{Clears, Empty, Pushes, Through};
+ghost use Rattle.delay.specs.Answers.{Clears, Opened, Pushes, Through};
 ghost use Rattle.delay.specs.Queues.{leaves, stays};
 ghost use Rattle.delay.specs.Triangles.{memoryOf, part, turned};
 use crate::triangle::Triangle;
@@ -48,7 +48,7 @@ impl Triangle {
     // Memory of the right length, cleared.
     fn refill<E: Copy>(&self, memory: &mut [E], empty: E)
         requires { ⌜ length (now memory) ≡ memoryOf (now self) ⌝ }
-        ensures { λ _. ⌜ Empty E (now (self .entry)) empty (now (memory .exit)) ⌝ }
+        ensures { λ _. ⌜ Opened E (now (self .entry)) empty (now (memory .exit)) ⌝ }
     {
         fill(memory, empty);
     }

@@ -1,6 +1,5 @@
 use mathlib.Core.Path.{_≡_, ap, _∙_}
 use mathlib.Core.List.{_++_, append-nil}
-use Prim.Native.Nat.{_<_}
 use native.Mathlib.Omega.{arith}
 use lib.ListN.{length, replicate, set}
 use Rattle.std.proofs.shelf.Lists.{drop-all}

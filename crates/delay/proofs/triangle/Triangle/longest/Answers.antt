@@ -1,7 +1,5 @@
-use mathlib.Core.Path.{ap, sym}
+use mathlib.Core.Path.{ap}
 use Prim.Native.Nat.{ℕ, _*_}
-use Rattle.delay.specs.Runs.{Returns}
-use Rattle.delay.specs.Triangles.{delayOf}
 use Rattle.delay.proofs.Delays.{returns as gives-back}
 use Rattle.delay.proofs.triangle.Triangle.longest.Needs as need
 
