@@ -4,27 +4,30 @@ use Prim.Native.Nat.{ℕ, zero, suc, _+_, _*_, _/_, _%_, _^_, _<_}
 use native.Mathlib.Omega.{arith}
 use lib.Bits.{bitXor, xor-assoc, xor-comm, xor-self, xor-zero-l, xor-zero-r, xor-mod, xor-shr, xor-block}
 
-pub sum-left : (a b c : ℕ) → bitXor a (bitXor b c) ≡ bitXor b (bitXor a c)
-sum-left a b c = sym (xor-assoc a b c) ∙ ap (λ (x : ℕ). bitXor x c) (xor-comm a b) ∙ xor-assoc b a c
+pub xor-left : (a b c : ℕ) → bitXor a (bitXor b c) ≡ bitXor b (bitXor a c)
+xor-left a b c = sym (xor-assoc a b c) ∙ ap (λ (x : ℕ). bitXor x c) (xor-comm a b) ∙ xor-assoc b a c
 
-pub sum-exchange : (a b c d : ℕ) → bitXor (bitXor a b) (bitXor c d) ≡ bitXor (bitXor a c) (bitXor b d)
-sum-exchange a b c d = xor-assoc a b (bitXor c d) ∙ ap (bitXor a) (sum-left b c d) ∙ sym (xor-assoc a c (bitXor b d))
+pub xor-four : (a b c d : ℕ) → bitXor (bitXor a b) (bitXor c d) ≡ bitXor (bitXor a c) (bitXor b d)
+xor-four a b c d = xor-assoc a b (bitXor c d) ∙ ap (bitXor a) (xor-left b c d) ∙ sym (xor-assoc a c (bitXor b d))
 
 -- what is added twice is gone
-pub sum-twice : (a b : ℕ) → bitXor a (bitXor a b) ≡ b
-sum-twice a b = sym (xor-assoc a a b) ∙ ap (λ (x : ℕ). bitXor x b) (xor-self a) ∙ xor-zero-l b
+pub xor-again : (a b : ℕ) → bitXor a (bitXor a b) ≡ b
+xor-again a b = sym (xor-assoc a a b) ∙ ap (λ (x : ℕ). bitXor x b) (xor-self a) ∙ xor-zero-l b
 
-pub sum-nothing : (a b : ℕ) → bitXor a b ≡ 0 → a ≡ b
-sum-nothing a b none = sym (xor-zero-r a) ∙ ap (bitXor a) (sym none) ∙ sum-twice a b
+pub xor-same : (a b : ℕ) → bitXor a b ≡ 0 → a ≡ b
+xor-same a b none = sym (xor-zero-r a) ∙ ap (bitXor a) (sym none) ∙ xor-again a b
+
+pub xor-none : (a b : ℕ) → a ≡ b → bitXor a b ≡ 0
+xor-none a b same = ap (bitXor a) (sym same) ∙ xor-self a
 
 abbrev pub Linear : (ℕ → ℕ) → Type 0
 Linear φ = (a b : ℕ) → φ (bitXor a b) ≡ bitXor (φ a) (φ b)
 
 pub linear-zero : (φ : ℕ → ℕ) → Linear φ → φ 0 ≡ 0
-linear-zero φ linear = sym (sum-twice (φ 0) (φ 0)) ∙ ap (bitXor (φ 0)) (sym (linear 0 0)) ∙ xor-self (φ 0)
+linear-zero φ linear = sym (xor-again (φ 0) (φ 0)) ∙ ap (bitXor (φ 0)) (sym (linear 0 0)) ∙ xor-self (φ 0)
 
 pub linear-sum : (φ ψ : ℕ → ℕ) → Linear φ → Linear ψ → Linear (λ a. bitXor (φ a) (ψ a))
-linear-sum φ ψ lφ lψ a b = ap₂ bitXor (lφ a b) (lψ a b) ∙ sum-exchange (φ a) (φ b) (ψ a) (ψ b)
+linear-sum φ ψ lφ lψ a b = ap₂ bitXor (lφ a b) (lψ a b) ∙ xor-four (φ a) (φ b) (ψ a) (ψ b)
 
 pub linear-after : (φ ψ : ℕ → ℕ) → Linear φ → Linear ψ → Linear (λ a. φ (ψ a))
 linear-after φ ψ lφ lψ a b = ap φ (lψ a b) ∙ lφ (ψ a) (ψ b)

@@ -21,4 +21,4 @@ returns c =
     let one : reducedTimes 8 29 (c .args .a) (c .power-of .result) ≡ 1 =
     ap₂ (reducedTimes 8 29) (sym (c .logarithm .ensures .undone)) (c .power-of .ensures) ∙ powers-add octets-generated log (255 - log)
     ∙ ap (power octets) whole ∙ powers-around octets-generated 0 in
-    inverse-unique octet-laws (c .args .a) (c .power-of .result) (c .power-of .ok) one
+    inverse-unique octets octet-laws (c .args .a) (c .power-of .result) (c .power-of .ok) one

@@ -1,0 +1,4 @@
+pub mod Queues
+pub mod Triangles
+pub mod Runs
+pub mod Answers

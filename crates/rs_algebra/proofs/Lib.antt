@@ -1,0 +1,17 @@
+pub mod Lists
+pub mod Polynomials
+pub mod Division
+pub mod Syndromes
+pub mod Zero
+pub mod Distance
+pub mod Checks
+pub mod Mended
+pub mod LowFirst
+pub mod Locator
+pub mod Roots
+pub mod Values
+pub mod Mending
+pub mod Decoded
+pub mod Steps
+pub mod Registers
+pub mod Terms
