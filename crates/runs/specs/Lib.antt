@@ -1,0 +1,5 @@
+pub mod Blocks
+pub mod Senders
+pub mod Receivers
+pub mod Histories
+pub mod Theorem
