@@ -1,0 +1,173 @@
+-- How much a run has sent, met and answered. Assumes nothing.
+use mathlib.Core.Path.{_≡_, refl, sym, ap, _∙_}
+use mathlib.Core.Bool.{Bool, true, false}
+use mathlib.Core.List.{List, [], _∷_, _++_}
+use mathlib.Core.Logic.{_⊎_, inl, inr}
+use Prim.Native.Nat.{ℕ, zero, suc, _+_, _*_, _≤_, _<_}
+use native.Mathlib.Nat.{add-mul, eq-of-mul-eq-mul-right, le-of-mul-le-mul-right, mul-pos, suc-mul, zero-mul}
+use native.Mathlib.Omega.{arith}
+use lib.Dec.{eqb, ltb}
+use lib.ListN.{length, drop, getD, length-append, length-drop, length-replicate, replicate}
+use Rattle.std.proofs.shelf.Lists.{getD-append-left, getD-push, length-push, length-take-le}
+use Rattle.std.proofs.shelf.Tests.{and-parts, cases-lt, eqb-true, ltb-true, true≢false}
+use Rattle.std.specs.declared.result.Result.{Result}
+use Rattle.std.specs.declared.result.Result.the-variants.{Ok, Err}
+use Rattle.places.specs.Line.{Plan}
+use Rattle.coder.specs.declared.arrival.Arrival.{Arrival}
+use Rattle.coder.specs.Codes.{Code, Message}
+use Rattle.scrambler.specs.Scrambler.{scrambled}
+use Rattle.scrambler.proofs.Scrambling.{length-scrambled, scrambled-octets}
+use Rattle.delay.specs.Queues.{Bank}
+use Rattle.delay.specs.Runs.{Blocks, outs}
+use Rattle.delay.proofs.Runs.{blocks-outs, length-outs}
+use Rattle.runs.specs.Blocks.{cut, joined, through}
+use Rattle.runs.specs.Senders.{Sending, Draining, drainAnswer, frameFits, mostWords, sendAnswer, unless}
+use Rattle.runs.specs.Receivers.{Answer, Filling, Running, fillAnswer, lineFits, receiveAnswer}
+use Rattle.runs.specs.Histories.{
+  SendingRun,
+  DrainingRun,
+  SenderRun,
+  ClosedRun,
+  FillingRun,
+  RunningRun,
+  ReceiverRun,
+}
+use Rattle.runs.specs.Theorem.{FinishedRun, Run, frameAt}
+use Rattle.runs.proofs.Settled.{Fits, Settled}
+use Rattle.runs.proofs.Words.{octets-at}
+
+-- ---- an accepted call passed each of its tests
+
+abbrev taken : Result (Unit {0}) ℕ → Bool
+taken (Ok u) = true
+taken (Err number) = false
+
+pub passed : (test : Bool) (number : ℕ) (others : Result (Unit {0}) ℕ) → unless test number others ≡ Ok tt
+    → (test ≡ true) × (others ≡ Ok tt)
+passed true number others ok = (refl, ok)
+passed false number others ok = absurd (true≢false (sym (ap taken ok)))
+
+-- ---- blocks through a delay line
+
+module _ {E : Type 0} where
+  pub length-cut : (I q : ℕ) (xs : List E) → length (cut I q xs) ≡ q
+  unfolding cut
+  length-cut I zero xs = refl
+  length-cut I (suc q) xs = ap suc (length-cut I q (drop I xs))
+
+  pub blocks-cut : (I q : ℕ) (xs : List E) → q * I ≤ length xs → Blocks I (cut I q xs)
+  unfolding cut
+  blocks-cut I zero xs h = tt
+  blocks-cut I (suc q) xs h = (
+    length-take-le I xs (omega (arith, suc-mul q I)),
+    blocks-cut I q (drop I xs) (omega (arith, suc-mul q I, length-drop I xs)),
+  )
+
+  pub length-joined : (I : ℕ) (bs : List (List E)) → Blocks I bs → length (joined bs) ≡ length bs * I
+  unfolding joined
+  length-joined I [] h = sym (zero-mul I)
+  length-joined I (b ∷ bs) h =
+      omega (arith, length-append b (joined bs), h .0, length-joined I bs (h .1), suc-mul (length bs) I)
+
+  pub length-through : (I q : ℕ) (bank : Bank E) (entering : List E) → q * I ≤ length entering → length (through I q bank entering) ≡ q * I
+  length-through I q bank entering h =
+      let blocks = cut I q entering in
+      length-joined I (outs bank blocks) (blocks-outs I bank blocks (blocks-cut I q entering h))
+      ∙ ap (λ (n : ℕ). n * I) (length-outs bank blocks ∙ length-cut I q entering)
+
+-- ---- both ends
+
+module _ {p : Plan} {c : Code} (settled : Settled p) (fits : Fits p c) where
+  pub some-word : 0 < p .word
+  some-word = let product : 0 < p .parts * p .block = mul-pos (settled .some-parts) (settled .laid .some) in omega (arith, settled .laid .whole)
+
+  -- a frame that was accepted, and what the scrambler makes of a frame
+  frame-long : (s : Sending) (memory frame before : List ℕ) → sendAnswer p c s memory frame before ≡ Ok tt → length frame ≡ p .frame
+  frame-long s memory frame before ok =
+      let later = passed (ltb (s .words) mostWords) 10 _ ok .1 in
+      let fit = passed (frameFits p c frame) 5 _ later .0 in
+      eqb-true (length frame) (p .frame) (and-parts _ _ fit .0)
+
+  pub scrambled-message : (earlier : List Bool) (frame : List ℕ) → Message c frame → Message c (scrambled earlier frame)
+  scrambled-message earlier frame of-frame = record {
+    long = length-scrambled earlier frame ∙ of-frame .long;
+    octets = octets-at (scrambled earlier frame) (scrambled-octets earlier frame);
+  }
+
+  word-long : (m : List ℕ) → Message c m → p .parts * p .block ≤ length (c .wordOf m)
+  word-long m of-m = omega (arith, fits .sound .word-long m of-m, fits .word, settled .laid .whole)
+
+  -- N line octets leave the interleaver with each call
+  one-word : (bank : Bank ℕ) (entering line : List ℕ) → p .parts * p .block ≤ length entering
+      → line ≡ through (p .block) (p .parts) bank entering → length line ≡ p .word
+  one-word bank entering line h e = ap length e ∙ length-through (p .block) (p .parts) bank entering h ∙ settled .laid .whole
+
+  -- ---- the sender
+
+  pub record SoFar (frames : List (List ℕ)) (line : List ℕ) (drains : ℕ) : Type 0 where
+    pub messages : (n : ℕ) → n < length frames → Message c (frameAt frames n)
+    pub long : length line ≡ (length frames + drains) * p .word
+
+  so-far-sending : {frames : List (List ℕ)} {line : List ℕ} {s : Sending} {memory : List ℕ}
+      → SendingRun p c frames line s memory → SoFar frames line 0
+  so-far-sending SendingRun.opens = record {
+    messages = λ n h. absurd (omega arith);
+    long = sym (zero-mul (p .word));
+  }
+  so-far-sending (SendingRun.sends {frames} {line} {s} {memory} frame before after run ok sent) =
+      go (so-far-sending run)
+    where
+      of-frame : Message c frame
+      of-frame = record {
+        long = frame-long s memory frame before ok ∙ sym (fits .frame);
+        octets = sent .octets;
+      }
+
+      last : (n : ℕ) → (n < length frames) ⊎ (length frames ≤ n) → n < length (frames ++ frame ∷ []) → SoFar frames line 0
+          → Message c (frameAt (frames ++ frame ∷ []) n)
+      last n (inl below) h before = rw (getD-append-left frames (frame ∷ []) [] n below) (before .messages n below)
+      last n (inr above) h before =
+          let e : length frames ≡ n = omega (arith, length-push frames frame) in
+          rw (getD-push frames frame [] n e) of-frame
+
+      go : SoFar frames line 0 → SoFar (frames ++ frame ∷ []) (line ++ after) 0
+      go before =
+          let one : length after ≡ p .word
+          = one-word _ _ after (word-long _ (scrambled-message (s .earlier) frame of-frame)) (sent .interleaves .line-octets) in record {
+            messages = λ n h. last n (cases-lt n (length frames)) h before;
+            long = omega (arith, before .long, one, length-append line after, length-push frames frame, add-mul (length frames) 1 (p .word));
+          }
+  so-far-sending (SendingRun.refuses run) = so-far-sending run
+
+  so-far-draining : {frames : List (List ℕ)} {line : List ℕ} {s : Draining} {memory : List ℕ}
+      → DrainingRun p c frames line s memory → SoFar frames line (s .drained) × (s .drained ≤ p .lag)
+  so-far-draining (DrainingRun.ends run) = (so-far-sending run, omega arith)
+  so-far-draining (DrainingRun.drains {frames} {line} {s} {s′} {memory} before after run ok drained) = go (so-far-draining run)
+    where
+      go : SoFar frames line (s .drained) × (s .drained ≤ p .lag) → SoFar frames (line ++ after) (s′ .drained) × (s′ .drained ≤ p .lag)
+      go earlier =
+          let room : s .drained < p .lag = ltb-true (s .drained) (p .lag) (passed (ltb (s .drained) (p .lag)) 11 _ ok .0) in
+          let zeros : length (replicate (p .word) 0) ≡ p .word = length-replicate (p .word) 0 in
+          let one : length after ≡ p .word
+          = one-word _ _ after (omega (arith, zeros, settled .laid .whole)) (drained .interleaves .line-octets) in (
+            record {
+              messages = earlier .0 .messages;
+              long = omega (arith, earlier .0 .long, one, length-append line after, drained .drained);
+            },
+            omega (arith, drained .drained),
+          )
+  so-far-draining (DrainingRun.refuses run) = so-far-draining run
+
+  -- at most w drains follow the words
+  pub sent-so-far : {frames : List (List ℕ)} {line : List ℕ} → SenderRun p c frames line
+      → (drains : ℕ) × (drains ≤ p .lag) × SoFar frames line drains
+  sent-so-far (SenderRun.sending s memory run) = (0, omega arith, so-far-sending run)
+  sent-so-far (SenderRun.draining s memory run) = let both = so-far-draining run in (s .drained, both .1, both .0)
+
+  pub closed-so-far : {frames : List (List ℕ)} {line : List ℕ} → ClosedRun p c frames line → SoFar frames line (p .lag)
+  closed-so-far closed =
+      let all : closed .state .drained ≡ p .lag = eqb-true (closed .state .drained) (p .lag) (passed (eqb (closed .state .drained) (p .lag)) 11 _ (closed .close) .0) in
+      rw all at (so-far-draining (closed .run) .0)
+
+  pub sender-of : {frames : List (List ℕ)} {line : List ℕ} → ClosedRun p c frames line → SenderRun p c frames line
+  sender-of closed = SenderRun.draining (closed .state) (closed .memory) (closed .run)
