@@ -21,8 +21,8 @@ use Rattle.delay.specs.Queues.{Bank}
 use Rattle.delay.specs.Runs.{Blocks, outs}
 use Rattle.delay.proofs.Runs.{blocks-outs, length-outs}
 use Rattle.runs.specs.Blocks.{cut, joined, through}
-use Rattle.runs.specs.Senders.{Sending, Draining, drainAnswer, frameFits, mostWords, sendAnswer, unless}
-use Rattle.runs.specs.Receivers.{Answer, Filling, Running, fillAnswer, lineFits, receiveAnswer}
+use Rattle.runs.specs.Senders.{Sending, Draining, drainAnswer, frameFits, lineFits, mostWords, sendAnswer, unless}
+use Rattle.runs.specs.Receivers.{Answer, Filling, Running, fillAnswer, receiveAnswer}
 use Rattle.runs.specs.Histories.{
   SendingRun,
   DrainingRun,
@@ -74,6 +74,12 @@ module _ {E : Type 0} where
       let blocks = cut I q entering in
       length-joined I (outs bank blocks) (blocks-outs I bank blocks (blocks-cut I q entering h))
       ∙ ap (λ (n : ℕ). n * I) (length-outs bank blocks ∙ length-cut I q entering)
+
+-- a call more is a word more
+word-more : (now more later words words′ N : ℕ) → later ≡ now + more → now ≡ words * N → more ≡ N → words′ ≡ suc words → later ≡ words′ * N
+word-more now more later words words′ N e so-far one next =
+    let grown : later ≡ suc words * N = omega (arith, suc-mul words N) in
+    grown ∙ ap (λ (n : ℕ). n * N) (sym next)
 
 -- ---- both ends
 
@@ -135,7 +141,7 @@ module _ {p : Plan} {c : Code} (settled : Settled p) (fits : Fits p c) where
           let one : length after ≡ p .word
           = one-word _ _ after (word-long _ (scrambled-message (s .earlier) frame of-frame)) (sent .interleaves .line-octets) in record {
             messages = λ n h. last n (cases-lt n (length frames)) h before;
-            long = omega (arith, before .long, one, length-append line after, length-push frames frame, add-mul (length frames) 1 (p .word));
+            long = word-more _ _ _ _ _ (p .word) (length-append line after) (before .long) one (omega (arith, length-push frames frame));
           }
   so-far-sending (SendingRun.refuses run) = so-far-sending run
 
@@ -147,12 +153,12 @@ module _ {p : Plan} {c : Code} (settled : Settled p) (fits : Fits p c) where
       go : SoFar frames line (s .drained) × (s .drained ≤ p .lag) → SoFar frames (line ++ after) (s′ .drained) × (s′ .drained ≤ p .lag)
       go earlier =
           let room : s .drained < p .lag = ltb-true (s .drained) (p .lag) (passed (ltb (s .drained) (p .lag)) 11 _ ok .0) in
-          let zeros : length (replicate (p .word) 0) ≡ p .word = length-replicate (p .word) 0 in
+          let zeros : length (replicate {A = ℕ} (p .word) 0) ≡ p .word = length-replicate (p .word) 0 in
           let one : length after ≡ p .word
           = one-word _ _ after (omega (arith, zeros, settled .laid .whole)) (drained .interleaves .line-octets) in (
             record {
               messages = earlier .0 .messages;
-              long = omega (arith, earlier .0 .long, one, length-append line after, drained .drained);
+              long = word-more _ _ _ _ _ (p .word) (length-append line after) (earlier .0 .long) one (omega (arith, drained .drained));
             },
             omega (arith, drained .drained),
           )
@@ -171,3 +177,81 @@ module _ {p : Plan} {c : Code} (settled : Settled p) (fits : Fits p c) where
 
   pub sender-of : {frames : List (List ℕ)} {line : List ℕ} → ClosedRun p c frames line → SenderRun p c frames line
   sender-of closed = SenderRun.draining (closed .state) (closed .memory) (closed .run)
+
+  -- ---- the receiver
+
+  so-far-filling : {arrivals : List Arrival} {s : Filling} {memory : List Arrival} → FillingRun p arrivals s memory
+      → (length arrivals ≡ s .filled * p .word) × (s .filled ≤ p .lag)
+  so-far-filling FillingRun.opens = (sym (zero-mul (p .word)), omega arith)
+  so-far-filling (FillingRun.fills {arrivals} {s} {s′} {memory} line run ok filled) = go (so-far-filling run)
+    where
+      go : (length arrivals ≡ s .filled * p .word) × (s .filled ≤ p .lag) → (length (arrivals ++ line) ≡ s′ .filled * p .word) × (s′ .filled ≤ p .lag)
+      go before =
+          let first = passed (ltb (s .filled) (p .lag)) 11 _ ok in
+          let room : s .filled < p .lag = ltb-true (s .filled) (p .lag) (first .0) in
+          let one : length line ≡ p .word = eqb-true (length line) (p .word) (passed (eqb (length line) (p .word)) 6 _ (first .1) .0) in
+          (word-more _ _ _ _ _ (p .word) (length-append arrivals line) (before .0) one (filled .filled), omega (arith, filled .filled))
+  so-far-filling (FillingRun.refuses run) = so-far-filling run
+
+  so-far-running : {arrivals : List Arrival} {answers : List Answer} {s : Running} {memory : List Arrival}
+      → RunningRun p c arrivals answers s memory → length arrivals ≡ (p .lag + length answers) * p .word
+  so-far-running (RunningRun.starts {s} run ok) =
+      let all : s .filled ≡ p .lag = eqb-true (s .filled) (p .lag) (passed (eqb (s .filled) (p .lag)) 11 _ ok .0) in
+      let sum : s .filled ≡ p .lag + 0 = omega arith in
+      so-far-filling run .0 ∙ ap (λ (n : ℕ). n * p .word) sum
+  so-far-running (RunningRun.receives {arrivals} {answers} {s} {s′} {memory} line before answer run ok received) =
+      word-more _ _ _ _ _ (p .word) (length-append arrivals line) (so-far-running run) one (omega (arith, length-push answers answer))
+    where
+      one : length line ≡ p .word
+      one =
+          let first = passed (ltb (s .words) mostWords) 10 _ ok in
+          let second = passed (frameFits p c before) 5 _ (first .1) in
+          eqb-true (length line) (p .word) (and-parts _ _ (passed (lineFits p c line) 6 _ (second .1) .0) .0)
+  so-far-running (RunningRun.refuses run) = so-far-running run
+
+  -- at most w fills come before the receives, and just w before the first
+  pub met-so-far : {arrivals : List Arrival} {answers : List Answer} → ReceiverRun p c arrivals answers
+      → (fills : ℕ) × (fills ≤ p .lag) × (length arrivals ≡ (fills + length answers) * p .word) × (0 < length answers → fills ≡ p .lag)
+  met-so-far (ReceiverRun.filling s memory run) =
+      let both = so-far-filling run in
+      let sum : s .filled ≡ s .filled + 0 = omega arith in
+      (s .filled, both .1, both .0 ∙ ap (λ (n : ℕ). n * p .word) sum, λ some. absurd (omega arith))
+  met-so-far (ReceiverRun.running s memory run) = (p .lag, omega arith, so-far-running run, λ some. refl)
+
+  -- ---- both
+
+  -- what is answered was sent
+  pub answered-sent : {frames : List (List ℕ)} {line : List ℕ} {arrivals : List Arrival} {answers : List Answer}
+      → Run p c frames line arrivals answers → length answers ≤ length frames
+  answered-sent {frames} {line} {arrivals} {answers} run = go (sent-so-far (run .sender)) (met-so-far (run .receiver)) (cases-lt 0 (length answers))
+    where
+      go : (drains : ℕ) × (drains ≤ p .lag) × SoFar frames line drains
+          → (fills : ℕ) × (fills ≤ p .lag) × (length arrivals ≡ (fills + length answers) * p .word) × (0 < length answers → fills ≡ p .lag)
+          → (0 < length answers) ⊎ (length answers ≤ 0) → length answers ≤ length frames
+      go sent met (inl some) =
+          let products : (met .0 + length answers) * p .word ≤ (length frames + sent .0) * p .word
+          = omega (arith, sent .2 .long, met .2, run .met) in
+          let words : met .0 + length answers ≤ length frames + sent .0 = le-of-mul-le-mul-right products some-word in
+          omega (arith, met .3 some, sent .1)
+      go sent met (inr none) = omega arith
+
+  -- of a finished run every frame is answered
+  pub all-answered : {frames : List (List ℕ)} {line : List ℕ} {arrivals : List Arrival} {answers : List Answer}
+      → FinishedRun p c frames line arrivals answers → length frames ≤ length answers
+  all-answered {frames} {line} {arrivals} {answers} run =
+      let sent = closed-so-far (run .sender) in
+      let met = met-so-far (run .receiver) in
+      let products : (length frames + p .lag) * p .word ≡ (met .0 + length answers) * p .word = sym (sent .long) ∙ sym (run .met) ∙ met .2 in
+      let words : length frames + p .lag ≡ met .0 + length answers
+      = eq-of-mul-eq-mul-right (p .word) some-word (length frames + p .lag) (met .0 + length answers) products in
+      omega (arith, words, met .1)
+
+  -- finished runs with as many arrivals have as many frames
+  pub as-many : {frames frames′ : List (List ℕ)} {line line′ : List ℕ} {arrivals : List Arrival} {answers answers′ : List Answer}
+      → FinishedRun p c frames line arrivals answers → FinishedRun p c frames′ line′ arrivals answers′ → length frames ≡ length frames′
+  as-many {frames} {frames′} run run′ =
+      let products : (length frames + p .lag) * p .word ≡ (length frames′ + p .lag) * p .word
+      = sym (closed-so-far (run .sender) .long) ∙ sym (run .met) ∙ run′ .met ∙ closed-so-far (run′ .sender) .long in
+      let words : length frames + p .lag ≡ length frames′ + p .lag
+      = eq-of-mul-eq-mul-right (p .word) some-word (length frames + p .lag) (length frames′ + p .lag) products in
+      omega (arith, words)
