@@ -1,3 +1,4 @@
 pub mod Settled
 pub mod Words
 pub mod Counts
+pub mod Received
