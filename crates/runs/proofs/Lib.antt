@@ -2,3 +2,7 @@ pub mod Settled
 pub mod Words
 pub mod Counts
 pub mod Received
+pub mod Arriving
+pub mod Apart
+pub mod Sharp
+pub mod Rides
