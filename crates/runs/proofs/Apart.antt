@@ -4,13 +4,13 @@ use mathlib.Core.List.{List, [], map}
 use Prim.Native.Nat.{ℕ, zero, suc, _≤_, _<_}
 use native.Mathlib.Nat.{le-of-eq}
 use native.Mathlib.Omega.{arith}
-use lib.ListN.{length, getD}
+use lib.ListN.{length}
 use Rattle.std.proofs.shelf.Lists.{getD-default, same-lists}
 use Rattle.places.specs.Line.{Plan}
 use Rattle.places.specs.Limit.{BurstLimit}
 use Rattle.coder.specs.declared.arrival.Arrival.{Arrival}
 use Rattle.coder.specs.Arrivals.{valueOf}
-use Rattle.coder.specs.Codes.{Code, Message}
+use Rattle.coder.specs.Codes.{Code}
 use Rattle.scrambler.specs.Scrambler.{after, descrambled, scrambled}
 use Rattle.scrambler.proofs.Scrambling.{undo}
 use Rattle.runs.specs.Receivers.{Answer}
@@ -22,20 +22,19 @@ use Rattle.runs.proofs.Counts.{all-answered, as-many, sender-of}
 use Rattle.runs.proofs.Received.{Carries, Close, Gathered, gathered-by, long-values, sent-message}
 use Rattle.runs.proofs.Arriving.{carried, close-by}
 
-module _ {p : Plan} {c : Code} (settled : Settled p) (fits : Fits p c) where
+module _ {p : Plan} {c : Code} (fits : Fits p c) where
   module _ {frames frames′ : List (List ℕ)} {line line′ : List ℕ} {arrivals : List Arrival}
       (carries : Carries p c frames line arrivals) (carries′ : Carries p c frames′ line′ arrivals)
       (as-long : length frames ≡ length frames′) (word : ℕ → List Arrival)
       (got : (n : ℕ) → n < length frames → Gathered p arrivals n (word n))
       (close : (n : ℕ) → n < length frames → Close c frames n (word n))
       (close′ : (n : ℕ) → n < length frames → Close c frames′ n (word n)) where
-
     -- one received word is near both words sent, so they carry one message
     one-message : (n : ℕ) → n < length frames
         → scrambled (earlierAt frames n) (frameAt frames n) ≡ scrambled (earlierAt frames′ n) (frameAt frames′ n)
     one-message n h =
-        one-near c (fits .sound) (map valueOf (word n)) _ _ (long-values settled fits (got n h))
-        (sent-message settled fits carries n h) (sent-message settled fits carries′ n (omega arith)) (close n h) (close′ n h)
+        one-near c (fits .sound) (map valueOf (word n)) _ _ (long-values fits (got n h))
+        (sent-message fits carries n h) (sent-message fits carries′ n (omega arith)) (close n h) (close′ n h)
 
     same-earlier : (n : ℕ) → n ≤ length frames → earlierAt frames n ≡ earlierAt frames′ n
     unfolding earlierAt
@@ -55,15 +54,16 @@ module _ {p : Plan} {c : Code} (settled : Settled p) (fits : Fits p c) where
         same-lists frames frames′ as-long
         (λ n d h. getD-default frames n d [] h ∙ same-frame n h ∙ getD-default frames′ n [] d (omega arith))
 
-  module _ (line-holds : (frames : List (List ℕ)) (line : List ℕ) → SenderRun p c frames line → LineHolds p c frames line)
-      (answers-rest : (arrivals : List Arrival) (answers : List Answer) → ReceiverRun p c arrivals answers → AnswersRest p c arrivals answers) where
-    pub told-apart : (B : ℕ) → BurstLimit p B → ToldApart p c B
-    told-apart B limit frames frames′ line line′ arrivals answers answers′ run rule run′ rule′ =
-        let carries = carried settled fits line-holds answers-rest (sender-of settled fits (run .sender)) (le-of-eq (run .met)) in
-        let carries′ = carried settled fits line-holds answers-rest (sender-of settled fits (run′ .sender)) (le-of-eq (run′ .met)) in
-        let rest = answers-rest arrivals answers (run .receiver) in
-        let all = all-answered settled fits run in
-        let as-long = as-many settled fits run run′ in
-        same-frames carries carries′ as-long (rest .word) (λ n h. gathered-by rest n (omega (arith, all)))
-        (λ n h. close-by settled fits carries B limit rule n h (gathered-by rest n (omega (arith, all))))
-        (λ n h. close-by settled fits carries′ B limit rule′ n (omega (arith, as-long)) (gathered-by rest n (omega (arith, all))))
+module _ {p : Plan} {c : Code} (settled : Settled p) (fits : Fits p c)
+    (line-holds : (frames : List (List ℕ)) (line : List ℕ) → SenderRun p c frames line → LineHolds p c frames line)
+    (answers-rest : (arrivals : List Arrival) (answers : List Answer) → ReceiverRun p c arrivals answers → AnswersRest p c arrivals answers) where
+  pub told-apart : (B : ℕ) → BurstLimit p B → ToldApart p c B
+  told-apart B limit frames frames′ line line′ arrivals answers answers′ run rule run′ rule′ =
+      let carries = carried settled fits line-holds (sender-of (run .sender)) (le-of-eq (run .met)) in
+      let carries′ = carried settled fits line-holds (sender-of (run′ .sender)) (le-of-eq (run′ .met)) in
+      let rest = answers-rest arrivals answers (run .receiver) in
+      let all = all-answered settled fits run in
+      let as-long = as-many settled fits run run′ in
+      same-frames fits carries carries′ as-long (rest .word) (λ n h. gathered-by rest n (omega (arith, all)))
+      (λ n h. close-by settled fits carries B limit rule n h (gathered-by rest n (omega (arith, all))))
+      (λ n h. close-by settled fits carries′ B limit rule′ n (omega (arith, as-long)) (gathered-by rest n (omega (arith, all))))

@@ -1,7 +1,7 @@
 -- Frames arrive. Assumes nothing.
 use mathlib.Core.Path.{_≡_, sym, ap, _∙_}
 use mathlib.Core.Bool.{Bool, true, false}
-use mathlib.Core.List.{List, map}
+use mathlib.Core.List.{List}
 use mathlib.Core.Logic.{_⊎_, inl, inr, _≢_}
 use Prim.Native.Nat.{ℕ, _+_, _-_, _*_, _≤_, _<_}
 use native.Mathlib.Omega.{arith}
@@ -17,7 +17,7 @@ use Rattle.coder.specs.Arrivals.{valueOf}
 use Rattle.coder.specs.Codes.{Code}
 use Rattle.runs.specs.Receivers.{Answer}
 use Rattle.runs.specs.Histories.{ReceiverRun, SenderRun}
-use Rattle.runs.specs.Theorem.{AnswersRest, BurstRule, FramesArrive, LineHolds, Run, Spoilt, arrivedAt, sentAt}
+use Rattle.runs.specs.Theorem.{AnswersRest, BurstRule, FramesArrive, LineHolds, Spoilt, arrivedAt, sentAt}
 use Rattle.runs.proofs.Settled.{Fits, Settled}
 use Rattle.runs.proofs.Counts.{answered-sent, sent-so-far, some-word}
 use Rattle.runs.proofs.Received.{Carries, Close, Gathered, gathered-by, handed-out, spoilt-few}
@@ -48,7 +48,7 @@ module _ {p : Plan} {c : Code} (settled : Settled p) (fits : Fits p c) where
       → (B : ℕ) → BurstLimit p B → BurstRule p B line arrivals → (n : ℕ) → n < length frames
       → {word : List Arrival} → Gathered p arrivals n word → Close c frames n word
   close-by {frames} {line} {arrivals} carries B limit rule n sent {word} got =
-      let few = spoilt-few settled fits carries n sent got (λ k. within b B (place p n k)) whole in
+      let few = spoilt-few fits carries n sent got (λ k. within b B (place p n k)) whole in
       omega (arith, few, counted, fits .repairs)
     where
       burst : (b : ℕ) × ((i : ℕ) → n * p .word ≤ i → i < n * p .word + p .reach → Spoilt line arrivals i → (b ≤ i) × (i < b + B))
@@ -71,8 +71,7 @@ module _ {p : Plan} {c : Code} (settled : Settled p) (fits : Fits p c) where
               let inside = burst .1 (place p n k) (between .0) (between .1) spoilt in
               absurd (true≢false (sym (within-from b B (place p n k) (inside .0) (inside .1)) ∙ outside))
 
-  module _ (line-holds : (frames : List (List ℕ)) (line : List ℕ) → SenderRun p c frames line → LineHolds p c frames line)
-      (answers-rest : (arrivals : List Arrival) (answers : List Answer) → ReceiverRun p c arrivals answers → AnswersRest p c arrivals answers) where
+  module _ (line-holds : (frames : List (List ℕ)) (line : List ℕ) → SenderRun p c frames line → LineHolds p c frames line) where
     pub carried : {frames : List (List ℕ)} {line : List ℕ} {arrivals : List Arrival} → SenderRun p c frames line → length arrivals ≤ length line
         → Carries p c frames line arrivals
     carried {frames} {line} sender met = record {
@@ -81,12 +80,13 @@ module _ {p : Plan} {c : Code} (settled : Settled p) (fits : Fits p c) where
       met = met;
     }
 
-    pub frames-arrive : (B : ℕ) → BurstLimit p B → FramesArrive p c B
-    frames-arrive B limit frames line arrivals answers run rule n h =
-        let carries = carried (run .sender) (run .met) in
-        let rest = answers-rest arrivals answers (run .receiver) in
-        let fewer = answered-sent settled fits run in (
-          omega (arith, fewer),
-          handed-out settled fits carries rest fewer n h
-          (λ m l. close-by carries B limit rule m (omega (arith, fewer)) (gathered-by rest m l)),
-        )
+    module _ (answers-rest : (arrivals : List Arrival) (answers : List Answer) → ReceiverRun p c arrivals answers → AnswersRest p c arrivals answers) where
+      pub frames-arrive : (B : ℕ) → BurstLimit p B → FramesArrive p c B
+      frames-arrive B limit frames line arrivals answers run rule n h =
+          let carries = carried (run .sender) (run .met) in
+          let rest = answers-rest arrivals answers (run .receiver) in
+          let fewer = answered-sent settled fits run in (
+            omega (arith, fewer),
+            handed-out fits carries rest fewer n h
+                (λ m l. close-by carries B limit rule m (omega (arith, fewer)) (gathered-by rest m l)),
+          )

@@ -4,10 +4,10 @@ use mathlib.Core.Bool.{Bool, true, false}
 use mathlib.Core.List.{List, [], _∷_, _++_}
 use mathlib.Core.Logic.{_⊎_, inl, inr}
 use Prim.Native.Nat.{ℕ, zero, suc, _+_, _*_, _≤_, _<_}
-use native.Mathlib.Nat.{add-mul, eq-of-mul-eq-mul-right, le-of-mul-le-mul-right, mul-pos, suc-mul, zero-mul}
+use native.Mathlib.Nat.{eq-of-mul-eq-mul-right, le-of-mul-le-mul-right, mul-pos, suc-mul, zero-mul}
 use native.Mathlib.Omega.{arith}
 use lib.Dec.{eqb, ltb}
-use lib.ListN.{length, drop, getD, length-append, length-drop, length-replicate, replicate}
+use lib.ListN.{length, drop, length-append, length-drop, length-replicate, replicate}
 use Rattle.std.proofs.shelf.Lists.{getD-append-left, getD-push, length-push, length-take-le}
 use Rattle.std.proofs.shelf.Tests.{and-parts, cases-lt, eqb-true, ltb-true, true≢false}
 use Rattle.std.specs.declared.result.Result.{Result}
@@ -21,8 +21,8 @@ use Rattle.delay.specs.Queues.{Bank}
 use Rattle.delay.specs.Runs.{Blocks, outs}
 use Rattle.delay.proofs.Runs.{blocks-outs, length-outs}
 use Rattle.runs.specs.Blocks.{cut, joined, through}
-use Rattle.runs.specs.Senders.{Sending, Draining, drainAnswer, frameFits, lineFits, mostWords, sendAnswer, unless}
-use Rattle.runs.specs.Receivers.{Answer, Filling, Running, fillAnswer, receiveAnswer}
+use Rattle.runs.specs.Senders.{Sending, Draining, frameFits, lineFits, mostWords, sendAnswer, unless}
+use Rattle.runs.specs.Receivers.{Answer, Filling, Running}
 use Rattle.runs.specs.Histories.{
   SendingRun,
   DrainingRun,
@@ -83,22 +83,32 @@ word-more now more later words words′ N e so-far one next =
 
 -- ---- both ends
 
+-- the scrambler makes a message of a message
+pub scrambled-message : {c : Code} (earlier : List Bool) (frame : List ℕ) → Message c frame → Message c (scrambled earlier frame)
+scrambled-message earlier frame of-frame = record {
+  long = length-scrambled earlier frame ∙ of-frame .long;
+  octets = octets-at (scrambled earlier frame) (scrambled-octets earlier frame);
+}
+
+-- what a sender has put on the line, a word for each frame and each drain
+pub record SoFar (p : Plan) (c : Code) (frames : List (List ℕ)) (line : List ℕ) (drains : ℕ) : Type 0 where
+  pub messages : (n : ℕ) → n < length frames → Message c (frameAt frames n)
+  pub long : length line ≡ (length frames + drains) * p .word
+
+-- a closed sender is one that has drained
+pub sender-of : {p : Plan} {c : Code} {frames : List (List ℕ)} {line : List ℕ} → ClosedRun p c frames line → SenderRun p c frames line
+sender-of closed = SenderRun.draining (closed .state) (closed .memory) (closed .run)
+
 module _ {p : Plan} {c : Code} (settled : Settled p) (fits : Fits p c) where
   pub some-word : 0 < p .word
   some-word = let product : 0 < p .parts * p .block = mul-pos (settled .some-parts) (settled .laid .some) in omega (arith, settled .laid .whole)
 
-  -- a frame that was accepted, and what the scrambler makes of a frame
+  -- a frame that was accepted
   frame-long : (s : Sending) (memory frame before : List ℕ) → sendAnswer p c s memory frame before ≡ Ok tt → length frame ≡ p .frame
   frame-long s memory frame before ok =
       let later = passed (ltb (s .words) mostWords) 10 _ ok .1 in
       let fit = passed (frameFits p c frame) 5 _ later .0 in
       eqb-true (length frame) (p .frame) (and-parts _ _ fit .0)
-
-  pub scrambled-message : (earlier : List Bool) (frame : List ℕ) → Message c frame → Message c (scrambled earlier frame)
-  scrambled-message earlier frame of-frame = record {
-    long = length-scrambled earlier frame ∙ of-frame .long;
-    octets = octets-at (scrambled earlier frame) (scrambled-octets earlier frame);
-  }
 
   word-long : (m : List ℕ) → Message c m → p .parts * p .block ≤ length (c .wordOf m)
   word-long m of-m = omega (arith, fits .sound .word-long m of-m, fits .word, settled .laid .whole)
@@ -110,12 +120,8 @@ module _ {p : Plan} {c : Code} (settled : Settled p) (fits : Fits p c) where
 
   -- ---- the sender
 
-  pub record SoFar (frames : List (List ℕ)) (line : List ℕ) (drains : ℕ) : Type 0 where
-    pub messages : (n : ℕ) → n < length frames → Message c (frameAt frames n)
-    pub long : length line ≡ (length frames + drains) * p .word
-
   so-far-sending : {frames : List (List ℕ)} {line : List ℕ} {s : Sending} {memory : List ℕ}
-      → SendingRun p c frames line s memory → SoFar frames line 0
+      → SendingRun p c frames line s memory → SoFar p c frames line 0
   so-far-sending SendingRun.opens = record {
     messages = λ n h. absurd (omega arith);
     long = sym (zero-mul (p .word));
@@ -129,14 +135,14 @@ module _ {p : Plan} {c : Code} (settled : Settled p) (fits : Fits p c) where
         octets = sent .octets;
       }
 
-      last : (n : ℕ) → (n < length frames) ⊎ (length frames ≤ n) → n < length (frames ++ frame ∷ []) → SoFar frames line 0
+      last : (n : ℕ) → (n < length frames) ⊎ (length frames ≤ n) → n < length (frames ++ frame ∷ []) → SoFar p c frames line 0
           → Message c (frameAt (frames ++ frame ∷ []) n)
       last n (inl below) h before = rw (getD-append-left frames (frame ∷ []) [] n below) (before .messages n below)
       last n (inr above) h before =
           let e : length frames ≡ n = omega (arith, length-push frames frame) in
           rw (getD-push frames frame [] n e) of-frame
 
-      go : SoFar frames line 0 → SoFar (frames ++ frame ∷ []) (line ++ after) 0
+      go : SoFar p c frames line 0 → SoFar p c (frames ++ frame ∷ []) (line ++ after) 0
       go before =
           let one : length after ≡ p .word
           = one-word _ _ after (word-long _ (scrambled-message (s .earlier) frame of-frame)) (sent .interleaves .line-octets) in record {
@@ -146,11 +152,11 @@ module _ {p : Plan} {c : Code} (settled : Settled p) (fits : Fits p c) where
   so-far-sending (SendingRun.refuses run) = so-far-sending run
 
   so-far-draining : {frames : List (List ℕ)} {line : List ℕ} {s : Draining} {memory : List ℕ}
-      → DrainingRun p c frames line s memory → SoFar frames line (s .drained) × (s .drained ≤ p .lag)
+      → DrainingRun p c frames line s memory → SoFar p c frames line (s .drained) × (s .drained ≤ p .lag)
   so-far-draining (DrainingRun.ends run) = (so-far-sending run, omega arith)
   so-far-draining (DrainingRun.drains {frames} {line} {s} {s′} {memory} before after run ok drained) = go (so-far-draining run)
     where
-      go : SoFar frames line (s .drained) × (s .drained ≤ p .lag) → SoFar frames (line ++ after) (s′ .drained) × (s′ .drained ≤ p .lag)
+      go : SoFar p c frames line (s .drained) × (s .drained ≤ p .lag) → SoFar p c frames (line ++ after) (s′ .drained) × (s′ .drained ≤ p .lag)
       go earlier =
           let room : s .drained < p .lag = ltb-true (s .drained) (p .lag) (passed (ltb (s .drained) (p .lag)) 11 _ ok .0) in
           let zeros : length (replicate {A = ℕ} (p .word) 0) ≡ p .word = length-replicate (p .word) 0 in
@@ -166,17 +172,14 @@ module _ {p : Plan} {c : Code} (settled : Settled p) (fits : Fits p c) where
 
   -- at most w drains follow the words
   pub sent-so-far : {frames : List (List ℕ)} {line : List ℕ} → SenderRun p c frames line
-      → (drains : ℕ) × (drains ≤ p .lag) × SoFar frames line drains
+      → (drains : ℕ) × (drains ≤ p .lag) × SoFar p c frames line drains
   sent-so-far (SenderRun.sending s memory run) = (0, omega arith, so-far-sending run)
   sent-so-far (SenderRun.draining s memory run) = let both = so-far-draining run in (s .drained, both .1, both .0)
 
-  pub closed-so-far : {frames : List (List ℕ)} {line : List ℕ} → ClosedRun p c frames line → SoFar frames line (p .lag)
+  pub closed-so-far : {frames : List (List ℕ)} {line : List ℕ} → ClosedRun p c frames line → SoFar p c frames line (p .lag)
   closed-so-far closed =
       let all : closed .state .drained ≡ p .lag = eqb-true (closed .state .drained) (p .lag) (passed (eqb (closed .state .drained) (p .lag)) 11 _ (closed .close) .0) in
       rw all at (so-far-draining (closed .run) .0)
-
-  pub sender-of : {frames : List (List ℕ)} {line : List ℕ} → ClosedRun p c frames line → SenderRun p c frames line
-  sender-of closed = SenderRun.draining (closed .state) (closed .memory) (closed .run)
 
   -- ---- the receiver
 
@@ -225,7 +228,7 @@ module _ {p : Plan} {c : Code} (settled : Settled p) (fits : Fits p c) where
       → Run p c frames line arrivals answers → length answers ≤ length frames
   answered-sent {frames} {line} {arrivals} {answers} run = go (sent-so-far (run .sender)) (met-so-far (run .receiver)) (cases-lt 0 (length answers))
     where
-      go : (drains : ℕ) × (drains ≤ p .lag) × SoFar frames line drains
+      go : (drains : ℕ) × (drains ≤ p .lag) × SoFar p c frames line drains
           → (fills : ℕ) × (fills ≤ p .lag) × (length arrivals ≡ (fills + length answers) * p .word) × (0 < length answers → fills ≡ p .lag)
           → (0 < length answers) ⊎ (length answers ≤ 0) → length answers ≤ length frames
       go sent met (inl some) =

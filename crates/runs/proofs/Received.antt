@@ -1,12 +1,12 @@
 -- The word that an answer rests on, and the word sent. Assumes nothing.
-use mathlib.Core.Path.{_≡_, refl, sym, ap, ap₂, subst, _∙_}
+use mathlib.Core.Path.{_≡_, sym, ap, ap₂, _∙_}
 use mathlib.Core.Bool.{Bool, true, false}
-use mathlib.Core.List.{List, [], _∷_, map}
-use mathlib.Core.Logic.{_⊎_, inl, inr, _≢_}
-use Prim.Native.Nat.{ℕ, zero, suc, _+_, _-_, _*_, _≤_, _<_}
+use mathlib.Core.List.{List, map}
+use mathlib.Core.Logic.{_≢_}
+use Prim.Native.Nat.{ℕ, zero, suc, _≤_, _<_}
 use native.Mathlib.Omega.{arith}
 use lib.ListN.{length, getD, length-map, List·getD-map}
-use Rattle.std.proofs.shelf.Tests.{cases-bool, true≢false}
+use Rattle.std.proofs.shelf.Tests.{true≢false}
 use Rattle.places.specs.Line.{Plan, place}
 use Rattle.places.specs.Limit.{tally}
 use Rattle.coder.specs.declared.arrival.Arrival.{Arrival}
@@ -17,7 +17,7 @@ use Rattle.scrambler.specs.Scrambler.{after, descrambled, scrambled}
 use Rattle.scrambler.proofs.Scrambling.{undo}
 use Rattle.runs.specs.Receivers.{Answer, Gives, Running, coder-loss, delivered, scrambler-loss}
 use Rattle.runs.specs.Theorem.{AnswersRest, LineHolds, answerAt, arrivedAt, earlierAt, frameAt, sentAt, wordAt}
-use Rattle.runs.proofs.Settled.{Fits, Settled}
+use Rattle.runs.proofs.Settled.{Fits}
 use Rattle.runs.proofs.Words.{few-differ, many-differ, octets-all, one-near}
 use Rattle.runs.proofs.Counts.{scrambled-message}
 
@@ -45,7 +45,7 @@ gathered-by rest n h = record {
 abbrev pub Close : Code → List (List ℕ) → ℕ → List Arrival → Type 0
 Close c frames n word = distance (wordAt c frames n) (map valueOf word) ≤ c .sizes .repairs
 
-module _ {p : Plan} {c : Code} (settled : Settled p) (fits : Fits p c) where
+module _ {p : Plan} {c : Code} (fits : Fits p c) where
   pub long-values : {arrivals : List Arrival} {n : ℕ} {word : List Arrival} → Gathered p arrivals n word → length (map valueOf word) ≡ c .sizes .word
   long-values {word = word} got = length-map word valueOf ∙ got .long ∙ sym (fits .word)
 
@@ -56,7 +56,7 @@ module _ {p : Plan} {c : Code} (settled : Settled p) (fits : Fits p c) where
 
   module _ {frames : List (List ℕ)} {line : List ℕ} {arrivals : List Arrival} (carries : Carries p c frames line arrivals) where
     pub sent-message : (n : ℕ) → n < length frames → Message c (scrambled (earlierAt frames n) (frameAt frames n))
-    sent-message n h = scrambled-message settled fits (earlierAt frames n) (frameAt frames n) (carries .messages n h)
+    sent-message n h = scrambled-message (earlierAt frames n) (frameAt frames n) (carries .messages n h)
 
     long-word : (n : ℕ) → n < length frames → length (wordAt c frames n) ≡ p .word
     long-word n h = fits .sound .word-long _ (sent-message n h) ∙ fits .word
@@ -80,8 +80,8 @@ module _ {p : Plan} {c : Code} (settled : Settled p) (fits : Fits p c) where
       spoilt-many f altered =
           many-differ (wordAt c frames n) (map valueOf word) (p .word) f (long-word n sent) (long-values got ∙ fits .word)
           (λ k l yes-k same.
-            let other = altered k l yes-k in
-            other .2 (sym (ap valueOf (other .1)) ∙ sym (value-at got k l) ∙ sym same ∙ sym (octet-at k l)))
+          let other = altered k l yes-k in
+          other .2 (sym (ap valueOf (other .1)) ∙ sym (value-at got k l) ∙ sym same ∙ sym (octet-at k l)))
 
   -- ---- one answer
 
@@ -95,12 +95,12 @@ module _ {p : Plan} {c : Code} (settled : Settled p) (fits : Fits p c) where
       let m = gives .0 in
       let near : Near c (map valueOf word) m repaired = gives .1 in
       let found : m ≡ sent
-      = one-near c (fits .sound) (map valueOf word) m sent long (near .message) (scrambled-message settled fits earlier frame of-frame)
+      = one-near c (fits .sound) (map valueOf word) m sent long (near .message) (scrambled-message earlier frame of-frame)
       (omega (arith, near .differing, near .within)) close in
       let back : handed ≡ frame = gives .2 ∙ ap₂ descrambled same found ∙ undo earlier frame (octets-all frame (of-frame .octets)) in
       ((repaired, ap (delivered repaired) back), gives .4, gives .5 ∙ ap₂ after same found)
   one-answer s s′ earlier frame word (coder-loss marks) of-frame long unbroken same close gives =
-      absurd (omega (arith, gives .0 (scrambled earlier frame) (scrambled-message settled fits earlier frame of-frame)))
+      absurd (omega (arith, gives .0 (scrambled earlier frame) (scrambled-message earlier frame of-frame)))
   one-answer s s′ earlier frame word scrambler-loss of-frame long unbroken same close gives =
       absurd (true≢false (sym (gives .3) ∙ unbroken))
 
@@ -108,7 +108,6 @@ module _ {p : Plan} {c : Code} (settled : Settled p) (fits : Fits p c) where
 
   module _ {frames : List (List ℕ)} {line : List ℕ} {arrivals : List Arrival} {answers : List Answer}
       (carries : Carries p c frames line arrivals) (rest : AnswersRest p c arrivals answers) (sent : length answers ≤ length frames) where
-
     -- While the words sent are within t places, the receiver's earlier bits are the sender's.
     pub agree : (n : ℕ) → n ≤ length answers → ((m : ℕ) → m < n → Close c frames m (rest .word m))
         → (rest .state n .broken ≡ false) × (rest .state n .earlier ≡ earlierAt frames n)

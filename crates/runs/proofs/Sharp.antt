@@ -1,14 +1,13 @@
 -- The limit is sharp. Assumes nothing.
 use mathlib.Core.Path.{_≡_, refl, sym, ap, subst, _∙_}
-use mathlib.Core.Bool.{true, false}
+use mathlib.Core.Bool.{false}
 use mathlib.Core.List.{List, map}
-use mathlib.Core.Logic.{_≢_}
-use Prim.Native.Nat.{ℕ, suc, _+_, _*_, _/_, _%_, _≤_, _<_}
+use Prim.Native.Nat.{ℕ, suc, _+_, _*_, _/_, _%_, _<_}
 use native.Mathlib.Omega.{arith}
 use lib.Arith.{digits-div}
 use lib.ListN.{length}
 use Rattle.places.specs.Line.{Plan, place}
-use Rattle.places.specs.Limit.{BurstLimit, held, tally, within}
+use Rattle.places.specs.Limit.{BurstLimit, held, within}
 use Rattle.places.proofs.Places.{Laid, branch-of, part-lt, row-of}
 use Rattle.places.proofs.Stretches.{sharp}
 use Rattle.places.proofs.Tallies.{tally-none, within-true}
@@ -19,11 +18,11 @@ use Rattle.scrambler.specs.Scrambler.{descrambled, scrambled}
 use Rattle.scrambler.proofs.Scrambling.{injective, undo}
 use Rattle.runs.specs.Receivers.{Answer, Gives, Running, delivered}
 use Rattle.runs.specs.Histories.{ReceiverRun, SenderRun}
-use Rattle.runs.specs.Theorem.{Altered, AnswersRest, LineHolds, Run, SharpLimit, answerAt, earlierAt, frameAt, wordAt}
+use Rattle.runs.specs.Theorem.{Altered, AnswersRest, LineHolds, SharpLimit, frameAt, wordAt}
 use Rattle.runs.proofs.Settled.{Fits, Settled}
 use Rattle.runs.proofs.Words.{octets-all}
 use Rattle.runs.proofs.Counts.{answered-sent, scrambled-message}
-use Rattle.runs.proofs.Received.{Carries, Close, Gathered, agree, gathered-by, sent-message, spoilt-few, spoilt-many}
+use Rattle.runs.proofs.Received.{Carries, Close, Gathered, agree, gathered-by, spoilt-few, spoilt-many}
 use Rattle.runs.proofs.Arriving.{carried}
 
 -- a place tells its word
@@ -42,9 +41,9 @@ module _ {p : Plan} {c : Code} (settled : Settled p) (fits : Fits p c) where
       → (n a L : ℕ) → Altered p n a L line arrivals → (m : ℕ) → m < n → m < length frames
       → {word : List Arrival} → Gathered p arrivals m word → Close c frames m word
   whole-before carries n a L altered m earlier sent got =
-      let few = spoilt-few settled fits carries m sent got (λ k. false)
+      let few = spoilt-few fits carries m sent got (λ k. false)
       (λ k l no-k. altered .elsewhere (place p m k) (got .met k l)
-        (λ j hj low high same. absurd (omega (arith, word-of-place (settled .laid) n m j k hj l same)))) in
+      (λ j hj low high same. absurd (omega (arith, word-of-place (settled .laid) n m j k hj l same)))) in
       omega (arith, few, tally-none (λ k. false) (p .word) (λ k l. refl))
 
   -- a word with more than t octets altered is not near the message sent
@@ -53,7 +52,7 @@ module _ {p : Plan} {c : Code} (settled : Settled p) (fits : Fits p c) where
       → {word : List Arrival} → Gathered p arrivals n word → c .sizes .repairs < distance (wordAt c frames n) (map valueOf word)
   unfolding held
   far-off carries n a L altered over sent got =
-      let many = spoilt-many settled fits carries n sent got (λ k. within a L (place p n k))
+      let many = spoilt-many fits carries n sent got (λ k. within a L (place p n k))
       (λ k l inside. let there = within-true a L (place p n k) inside in altered .there k l (there .0) (there .1) (got .met k l)) in
       omega (arith, many, over, fits .repairs)
 
@@ -66,7 +65,7 @@ module _ {p : Plan} {c : Code} (settled : Settled p) (fits : Fits p c) where
       let m = gives .0 in
       let near : Near c (map valueOf word) m repaired = gives .1 in
       let sent = scrambled (s .earlier) frame in
-      let of-sent = scrambled-message settled fits (s .earlier) frame of-frame in
+      let of-sent = scrambled-message (s .earlier) frame of-frame in
       let back : descrambled (s .earlier) m ≡ descrambled (s .earlier) sent
       = sym (gives .2) ∙ sym (undo (s .earlier) frame (octets-all frame (of-frame .octets))) in
       let same : m ≡ sent = injective (s .earlier) m sent (octets-all m (near .message .octets)) (octets-all sent (of-sent .octets)) back in
@@ -77,15 +76,19 @@ module _ {p : Plan} {c : Code} (settled : Settled p) (fits : Fits p c) where
       (answers-rest : (arrivals : List Arrival) (answers : List Answer) → ReceiverRun p c arrivals answers → AnswersRest p c arrivals answers) where
     pub sharp-limit : (B : ℕ) → BurstLimit p B → SharpLimit p c B
     sharp-limit B limit n =
-        let stretch = sharp (settled .laid) (p .repairs) B limit n in
-        (stretch .0, stretch .1, stretch .2, λ frames line arrivals answers run sent answered altered repaired same.
-          let carries = carried settled fits line-holds answers-rest (run .sender) (run .met) in
-          let rest = answers-rest arrivals answers (run .receiver) in
-          let fewer = answered-sent settled fits run in
-          let s = rest .state n in
-          let bits = agree settled fits carries rest fewer n (omega arith)
-          (λ m l. whole-before carries n (stretch .0) (B + 1) altered m l (omega arith) (gathered-by rest m (omega arith))) .1 in
-          let far = far-off carries n (stretch .0) (B + 1) altered (stretch .3) sent (gathered-by rest n answered) in
-          not-handed-out s (rest .state (suc n)) (frameAt frames n) (rest .word n) repaired (carries .messages n sent)
-          (subst (λ e. c .sizes .repairs < distance (c .wordOf (scrambled e (frameAt frames n))) (map valueOf (rest .word n))) (sym bits) far)
-          (subst (λ answer. Gives c s (rest .state (suc n)) (rest .word n) answer) same (rest .gives n answered)))
+        let stretch = sharp (settled .laid) (p .repairs) B limit n in (
+          stretch .0,
+          stretch .1,
+          stretch .2,
+          λ frames line arrivals answers run sent answered altered repaired same.
+              let carries = carried settled fits line-holds (run .sender) (run .met) in
+              let rest = answers-rest arrivals answers (run .receiver) in
+              let fewer = answered-sent settled fits run in
+              let s = rest .state n in
+              let bits = agree fits carries rest fewer n (omega arith)
+              (λ m l. whole-before carries n (stretch .0) (B + 1) altered m l (omega arith) (gathered-by rest m (omega arith))) .1 in
+              let far = far-off carries n (stretch .0) (B + 1) altered (stretch .3) sent (gathered-by rest n answered) in
+              not-handed-out s (rest .state (suc n)) (frameAt frames n) (rest .word n) repaired (carries .messages n sent)
+              (subst (λ e. c .sizes .repairs < distance (c .wordOf (scrambled e (frameAt frames n))) (map valueOf (rest .word n))) (sym bits) far)
+              (subst (λ answer. Gives c s (rest .state (suc n)) (rest .word n) answer) same (rest .gives n answered)),
+        )

@@ -3,17 +3,17 @@ use mathlib.Core.Path.{_≡_, refl, sym, ap, ap₂, _∙_}
 use mathlib.Core.Bool.{Bool, true, false, cond, not}
 use mathlib.Core.List.{List, [], _∷_}
 use mathlib.Core.Logic.{_⊎_, inl, inr, _≢_}
-use Prim.Native.Nat.{ℕ, zero, suc, _+_, _*_, _≤_, _<_}
+use Prim.Native.Nat.{ℕ, zero, suc, _+_, _≤_, _<_}
 use native.Mathlib.Omega.{arith}
 use lib.Dec.{eqb}
 use lib.ListN.{length, getD}
 use Rattle.std.proofs.shelf.Elements.{all-getD, all-from-getD}
 use Rattle.std.proofs.shelf.Lists.{getD-past}
-use Rattle.std.proofs.shelf.Tests.{cases-bool, cases-eq, cases-lt, eq-eqb, eqb-true, ne-eqb, true≢false}
+use Rattle.std.proofs.shelf.Tests.{cases-bool, cases-eq, cases-lt, eq-eqb, ne-eqb, true≢false}
 use Rattle.std.proofs.shelf.Ways.{tells}
 use Rattle.places.specs.Limit.{tally}
 use Rattle.places.proofs.Tallies.{tally-more}
-use Rattle.coder.specs.Codes.{Code, Message, Near, Octets, Sound, distance}
+use Rattle.coder.specs.Codes.{Code, Message, Octets, Sound, distance}
 use Rattle.scrambler.specs.Bits as bits
 
 -- ---- octets, said in two ways
