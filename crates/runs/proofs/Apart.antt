@@ -17,7 +17,7 @@ use Rattle.runs.specs.Receivers.{Answer}
 use Rattle.runs.specs.Histories.{ReceiverRun, SenderRun}
 use Rattle.runs.specs.Theorem.{AnswersRest, LineHolds, ToldApart, earlierAt, frameAt}
 use Rattle.runs.proofs.Settled.{Fits, Settled}
-use Rattle.runs.proofs.Words.{octets-all, one-near}
+use Rattle.runs.proofs.Differences.{octets-all, one-near}
 use Rattle.runs.proofs.Counts.{all-answered, as-many, sender-of}
 use Rattle.runs.proofs.Received.{Carries, Close, Gathered, gathered-by, long-values, sent-message}
 use Rattle.runs.proofs.Arriving.{carried, close-by}

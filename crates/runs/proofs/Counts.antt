@@ -34,7 +34,7 @@ use Rattle.runs.specs.Histories.{
 }
 use Rattle.runs.specs.Theorem.{FinishedRun, Run, frameAt}
 use Rattle.runs.proofs.Settled.{Fits, Settled}
-use Rattle.runs.proofs.Words.{octets-at}
+use Rattle.runs.proofs.Differences.{octets-at}
 
 -- ---- an accepted call passed each of its tests
 

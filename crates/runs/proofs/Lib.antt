@@ -1,5 +1,5 @@
 pub mod Settled
-pub mod Words
+pub mod Differences
 pub mod Counts
 pub mod Received
 pub mod Arriving

@@ -18,7 +18,7 @@ use Rattle.scrambler.proofs.Scrambling.{undo}
 use Rattle.runs.specs.Receivers.{Answer, Gives, Running, coder-loss, delivered, scrambler-loss}
 use Rattle.runs.specs.Theorem.{AnswersRest, LineHolds, answerAt, arrivedAt, earlierAt, frameAt, sentAt, wordAt}
 use Rattle.runs.proofs.Settled.{Fits}
-use Rattle.runs.proofs.Words.{few-differ, many-differ, octets-all, one-near}
+use Rattle.runs.proofs.Differences.{few-differ, many-differ, octets-all, one-near}
 use Rattle.runs.proofs.Counts.{scrambled-message}
 
 -- what is known of the frames sent and of the line, as far as it was met

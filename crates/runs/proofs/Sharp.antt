@@ -20,7 +20,7 @@ use Rattle.runs.specs.Receivers.{Answer, Gives, Running, delivered}
 use Rattle.runs.specs.Histories.{ReceiverRun, SenderRun}
 use Rattle.runs.specs.Theorem.{Altered, AnswersRest, LineHolds, SharpLimit, frameAt, wordAt}
 use Rattle.runs.proofs.Settled.{Fits, Settled}
-use Rattle.runs.proofs.Words.{octets-all}
+use Rattle.runs.proofs.Differences.{octets-all}
 use Rattle.runs.proofs.Counts.{answered-sent, scrambled-message}
 use Rattle.runs.proofs.Received.{Carries, Close, Gathered, agree, gathered-by, spoilt-few, spoilt-many}
 use Rattle.runs.proofs.Arriving.{carried}
