@@ -3,11 +3,12 @@ use mathlib.Core.Path.{_≡_, refl, sym, ap, ap₂, _∙_}
 use mathlib.Core.Bool.{cond}
 use mathlib.Core.List.{List, [], _∷_, _++_}
 use mathlib.Core.Logic.{_⊎_, inl, inr, _≢_}
-use Prim.Native.Nat.{ℕ, zero, suc, _+_, _≤_}
+use Prim.Native.Nat.{ℕ, zero, suc, _+_, _≤_, _<_}
 use native.Mathlib.Nat.{zero-add}
 use native.Mathlib.Omega.{arith}
 use lib.Dec.{eqb}
-use lib.ListN.{length, set}
+use lib.ListN.{length, getD, take, set}
+use Rattle.std.proofs.shelf.Lists.{length-take, take-more}
 use Rattle.std.proofs.shelf.Tests.{cases-eq}
 use Rattle.std.proofs.shelf.Ways.{tells}
 use Rattle.coder.specs.Codes.{Code, Message, Sound, Near, distance}
@@ -67,6 +68,16 @@ distance-append [] (y ∷ b) c d e = absurd (omega arith)
 distance-append (x ∷ a) [] c d e = absurd (omega arith)
 distance-append (x ∷ a) (y ∷ b) c d e =
     omega (arith, distance-append a b c d (omega arith))
+
+-- one place more: the step of a loop that counts places
+pub distance-more : (a b : List ℕ) (i : ℕ) → i < length a → i < length b
+    → distance (take (i + 1) a) (take (i + 1) b) ≡ distance (take i a) (take i b) + apart-at (getD a i 0) (getD b i 0)
+unfolding distance
+distance-more a b i ha hb =
+    let fronts : length (take i a) ≡ length (take i b) = length-take i a ∙ omega arith ∙ sym (length-take i b) in
+    ap₂ distance (take-more a i 0 ha) (take-more b i 0 hb)
+    ∙ distance-append (take i a) (take i b) (getD a i 0 ∷ []) (getD b i 0 ∷ []) fronts
+    ∙ ap (λ (n : ℕ). distance (take i a) (take i b) + n) (omega arith)
 
 -- one octet written changes a distance by one at most
 pub distance-set : (a b : List ℕ) (i x : ℕ) → distance a (set b i x) ≤ distance a b + 1

@@ -1,1 +1,2 @@
 pub mod Threefold
+pub mod Votes
