@@ -1,19 +1,18 @@
 -- The voted message is the nearest of all. Assumes nothing.
 use mathlib.Core.Path.{_≡_, refl, sym, ap, ap₂, _∙_}
-use mathlib.Core.Bool.{true, false}
-use mathlib.Core.List.{List, [], _∷_, _++_}
+use mathlib.Core.List.{List, _++_}
 use mathlib.Core.Logic.{_⊎_, inl, inr}
-use Prim.Native.Nat.{ℕ, zero, suc, _+_, _-_, _*_, _≤_, _<_}
+use Prim.Native.Nat.{ℕ, zero, suc, _+_, _*_, _≤_, _<_}
 use native.Mathlib.Omega.{arith}
-use lib.Dec.{eqb}
 use lib.ListN.{length, getD, take, drop}
 use Rattle.std.proofs.shelf.Counted.{length-map-counting, getD-map-counting}
-use Rattle.std.proofs.shelf.Lists.{append-assoc, length-append, length-drop, length-take, take-all, take-append-drop, drop-drop, getD-take, getD-drop}
-use Rattle.std.proofs.shelf.Tests.{cases-bool, cases-eq}
+use Rattle.std.proofs.shelf.Lists.{append-assoc, length-append, length-drop, length-take, take-all, take-append-drop, drop-drop, getD-take, getD-drop, getD-past}
+use Rattle.std.proofs.shelf.Tests.{cases-lt, cond-both}
 use Rattle.std.proofs.shelf.Ways.{tells}
-use Rattle.coder.specs.Codes.{distance}
+use Rattle.coder.specs.Codes.{Octets, Near, NoneNear, distance}
 use Rattle.coder.proofs.Distances.{apart-at, distance-append, distance-more}
-use Rattle.threefold.specs.Threefold.{thrice}
+use Rattle.threefold.specs.declared.threefold.Threefold.{Threefold}
+use Rattle.threefold.specs.Threefold.{thrice, threefoldCode}
 use Rattle.threefold.specs.Votes.{majorityOf, others, votedAt, oddAt, voted}
 
 -- no octet is nearer to three others than their majority
@@ -108,3 +107,40 @@ module _ (K : ℕ) (received : List ℕ) (long : length received ≡ 3 * K) wher
   pub voted-nearest : (m : List ℕ) → length m ≡ K → distance (thrice (voted K received)) received ≤ distance (thrice m) received
   voted-nearest m ml =
       omega (arith, nearest-upto m ml K (omega arith), upto-all m ml, upto-all (voted K received) (voted-long K received))
+
+-- a majority of octets is an octet
+pub voted-octets : (K : ℕ) (received : List ℕ) → Octets received → Octets (voted K received)
+voted-octets K received octets k = go (cases-lt k K)
+  where
+    go : (k < K) ⊎ (K ≤ k) → getD (voted K received) k 0 < 256
+    go (inl h) =
+        let at = voted-at K received k h in
+        let some : votedAt K received k < 256 = cond-both _ _ _ (λ x. x < 256) (λ t. octets (K + k)) (λ f. octets k) in
+        omega arith
+    go (inr h) = omega (arith, getD-past (voted K received) k 0 (omega (arith, voted-long K received)))
+
+-- What counting the odd octets tells: the voted message is near, or none is.
+module _ (coder : Threefold) (received : List ℕ) (long : length received ≡ coder .sizes .word) where
+  abbrev vote : List ℕ
+  vote = voted (coder .sizes .frame) received
+
+  pub thirds : length received ≡ 3 * coder .sizes .frame
+  thirds = long ∙ coder .long
+
+  -- the octets counted at the end of all copies
+  pub counted : (faults i : ℕ) → i ≡ coder .sizes .frame → faults ≡ upto (coder .sizes .frame) received vote i → distance (thrice vote) received ≡ faults
+  counted faults i end count =
+      sym (count ∙ ap (upto (coder .sizes .frame) received vote) end
+      ∙ upto-all (coder .sizes .frame) received thirds vote (voted-long (coder .sizes .frame) received))
+
+  pub vote-near : (faults : ℕ) → Octets received → distance (thrice vote) received ≡ faults → faults ≤ coder .sizes .repairs
+      → Near (threefoldCode coder) received vote faults
+  vote-near faults octets differing within = record {
+    message = record { long = voted-long (coder .sizes .frame) received; octets = voted-octets (coder .sizes .frame) received octets };
+    differing = differing;
+    within = within;
+  }
+
+  pub none-near : (faults : ℕ) → distance (thrice vote) received ≡ faults → coder .sizes .repairs < faults → NoneNear (threefoldCode coder) received
+  none-near faults differing far m is =
+      omega (arith, far, differing, voted-nearest (coder .sizes .frame) received thirds m (is .long))

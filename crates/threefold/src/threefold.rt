@@ -6,6 +6,7 @@ use coder::sizes::SizesDebug;
 use coder::sizes::SizesPartialEq;
 
 mod accepted;
+pub mod coding;
 mod copies;
 
 #[derive(Clone, Copy, PartialEq, Eq, Debug)]

@@ -1,6 +1,6 @@
 // The three copies of a message in a word.
 ghost use mathlib.Core.Path.{_≡_};
-ghost use Prim.Native.Nat.{_*_, _<_};
+ghost use Prim.Native.Nat.{_*_, _≤_, _<_};
 ghost use lib.ListN.{length};
 ghost use Rattle.threefold.specs.Threefold.{thrice};
 ghost use Rattle.threefold.specs.Votes.{majorityOf, votedAt, oddAt};
@@ -23,7 +23,7 @@ fn majority(a: u8, b: u8, c: u8) -> u8
 }
 
 // An octet of the message by the three copies of it.
-fn voted_octet(received: &[u8], frame: usize, place: usize) -> u8
+pub(super) fn voted_octet(received: &[u8], frame: usize, place: usize) -> u8
     requires { ⌜ length (now received) ≡ 3 * frame ⌝ ∗ ⌜ place < frame ⌝ }
     ensures { λ r. ⌜ r ≡ votedAt frame (now (received .entry)) place ⌝ }
 {
@@ -35,9 +35,10 @@ fn voted_octet(received: &[u8], frame: usize, place: usize) -> u8
 }
 
 // How many of the three copies are another octet.
-fn odd_octets(received: &[u8], frame: usize, place: usize) -> usize
+pub(super) fn odd_octets(received: &[u8], frame: usize, place: usize) -> usize
     requires { ⌜ length (now received) ≡ 3 * frame ⌝ ∗ ⌜ place < frame ⌝ }
-    ensures { λ r. ⌜ r ≡ oddAt frame (now (received .entry)) place ⌝ }
+    ensures value { λ r. ⌜ r ≡ oddAt frame (now (received .entry)) place ⌝ }
+    ensures bound { λ r. ⌜ r ≤ 3 ⌝ }
 {
     let octet = voted_octet(received, frame, place);
     let mut odd = 0;

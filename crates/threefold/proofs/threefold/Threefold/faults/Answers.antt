@@ -1,0 +1,28 @@
+use mathlib.Core.Path.{sym}
+use native.Mathlib.Omega.{arith}
+use Rattle.threefold.proofs.Nearest.{upto-none, odd-more, thirds, counted, vote-near, none-near}
+use Rattle.threefold.specs.Votes.{voted}
+use Rattle.threefold.proofs.threefold.Threefold.faults.Needs as need
+
+pub loop-place-holds : need.loop-place-holds
+loop-place-holds c =
+    let s = c .args .self .now in
+    let r = c .args .received .now in
+    (sym (upto-none (s .sizes .frame) r (voted (s .sizes .frame) r)), omega arith)
+
+pub loop-place-again : need.loop-place-again
+loop-place-again c =
+    let s = c .args .self .now in
+    let r = c .args .received .now in
+    let more = odd-more (s .sizes .frame) r (thirds s r (c .pre)) (c .loop-place .place) (c .loop-place-test .taken) in
+    (omega (arith, c .loop-place .inv .0, c .odd-octets-faults .ensures .value, more), omega (arith, c .loop-place .inv .1, c .odd-octets-faults .ensures .bound))
+
+pub returns : need.returns
+returns c =
+    let s = c .args .self .now in
+    let r = c .args .received .now in
+    let differing = counted s r (c .pre) (c .loop-place .faults) (c .loop-place .place) (omega arith) (c .loop-place .inv .0) in
+    record {
+      near = vote-near s r (c .pre) (c .loop-place .faults) (λ i. c .typed .received i .fits) differing;
+      far = none-near s r (c .pre) (c .loop-place .faults) differing;
+    }
