@@ -9,11 +9,11 @@ use Rattle.std.proofs.shelf.Counted.{length-map-counting, getD-map-counting}
 use Rattle.std.proofs.shelf.Lists.{append-assoc, length-append, length-drop, length-take, take-all, take-append-drop, drop-drop, getD-take, getD-drop, getD-past}
 use Rattle.std.proofs.shelf.Tests.{cases-lt, cond-both}
 use Rattle.std.proofs.shelf.Ways.{tells}
-use Rattle.coder.specs.Codes.{Octets, Near, NoneNear, distance}
+use Rattle.coder.specs.Codes.{Octets, distance}
 use Rattle.coder.proofs.Distances.{apart-at, distance-append, distance-more}
 use Rattle.threefold.specs.declared.threefold.Threefold.{Threefold}
-use Rattle.threefold.specs.Threefold.{thrice, threefoldCode}
-use Rattle.threefold.specs.Votes.{majorityOf, others, votedAt, oddAt, voted}
+use Rattle.threefold.specs.Threefold.{thrice}
+use Rattle.threefold.specs.Votes.{Judged, majorityOf, others, votedAt, oddAt, voted}
 
 -- no octet is nearer to three others than their majority
 pub majority-nearest : (a b c x : ℕ) → others a b c (majorityOf a b c) ≤ others a b c x
@@ -119,7 +119,7 @@ voted-octets K received octets k = go (cases-lt k K)
         omega arith
     go (inr h) = omega (arith, getD-past (voted K received) k 0 (omega (arith, voted-long K received)))
 
--- What counting the odd octets tells: the voted message is near, or none is.
+-- What counting the odd octets tells.
 module _ (coder : Threefold) (received : List ℕ) (long : length received ≡ coder .sizes .word) where
   abbrev vote : List ℕ
   vote = voted (coder .sizes .frame) received
@@ -127,20 +127,17 @@ module _ (coder : Threefold) (received : List ℕ) (long : length received ≡ c
   pub thirds : length received ≡ 3 * coder .sizes .frame
   thirds = long ∙ coder .long
 
-  -- the octets counted at the end of all copies
-  pub counted : (faults i : ℕ) → i ≡ coder .sizes .frame → faults ≡ upto (coder .sizes .frame) received vote i → distance (thrice vote) received ≡ faults
-  counted faults i end count =
-      sym (count ∙ ap (upto (coder .sizes .frame) received vote) end
-      ∙ upto-all (coder .sizes .frame) received thirds vote (voted-long (coder .sizes .frame) received))
-
-  pub vote-near : (faults : ℕ) → Octets received → distance (thrice vote) received ≡ faults → faults ≤ coder .sizes .repairs
-      → Near (threefoldCode coder) received vote faults
-  vote-near faults octets differing within = record {
-    message = record { long = voted-long (coder .sizes .frame) received; octets = voted-octets (coder .sizes .frame) received octets };
-    differing = differing;
-    within = within;
-  }
-
-  pub none-near : (faults : ℕ) → distance (thrice vote) received ≡ faults → coder .sizes .repairs < faults → NoneNear (threefoldCode coder) received
-  none-near faults differing far m is =
-      omega (arith, far, differing, voted-nearest (coder .sizes .frame) received thirds m (is .long))
+  -- the odd octets of all copies
+  pub judged : (faults i : ℕ) → Octets received → i ≡ coder .sizes .frame → faults ≡ upto (coder .sizes .frame) received vote i → Judged coder received faults
+  judged faults i octets end count =
+      let K : ℕ = coder .sizes .frame in
+      let all : distance (thrice vote) received ≡ faults
+      = sym (count ∙ ap (upto K received vote) end ∙ upto-all K received thirds vote (voted-long K received)) in
+      record {
+        near = λ within. record {
+          message = record { long = voted-long K received; octets = voted-octets K received octets };
+          differing = all;
+          within = within;
+        };
+        far = λ far m is. omega (arith, far, all, voted-nearest K received thirds m (is .long));
+      }

@@ -1,10 +1,13 @@
 -- The message that most copies of a received word speak for. Assumes nothing.
 use mathlib.Core.Bool.{cond}
 use mathlib.Core.List.{List, map}
-use Prim.Native.Nat.{ℕ, _+_, _*_}
+use Prim.Native.Nat.{ℕ, _+_, _*_, _≤_, _<_}
 use lib.Dec.{eqb}
 use lib.ListN.{getD}
 use Rattle.std.specs.Iters.{counting}
+use Rattle.coder.specs.Codes.{Near, NoneNear}
+use Rattle.threefold.specs.declared.threefold.Threefold.{Threefold}
+use Rattle.threefold.specs.Threefold.{threefoldCode}
 
 -- of three octets the one that two of them are; the first where all differ
 abbrev pub majorityOf : (a b c : ℕ) → ℕ
@@ -24,3 +27,8 @@ oddAt K received i = others (getD received i 0) (getD received (K + i) 0) (getD 
 
 unfoldable pub voted : (K : ℕ) (received : List ℕ) → List ℕ
 voted K received = map (votedAt K received) (counting 0 K)
+
+-- What the number of octets tells that differ from the voted message's word: it is near, or no message is.
+pub record Judged (coder : Threefold) (received : List ℕ) (faults : ℕ) : Type 0 where
+  pub near : faults ≤ coder .sizes .repairs → Near (threefoldCode coder) received (voted (coder .sizes .frame) received) faults
+  pub far : coder .sizes .repairs < faults → NoneNear (threefoldCode coder) received

@@ -1,10 +1,8 @@
 // Words of messages, and messages of received words.
 ghost use mathlib.Core.Path.{_≡_};
-ghost use Prim.Native.Nat.{_≤_, _<_};
 ghost use lib.ListN.{length};
-ghost use Rattle.coder.specs.Codes.{Near, NoneNear};
 ghost use Rattle.threefold.specs.Threefold.{threefoldCode};
-ghost use Rattle.threefold.specs.Votes.{voted};
+ghost use Rattle.threefold.specs.Votes.{Judged, voted};
 use super::Threefold;
 use super::copies::odd_octets;
 use super::copies::voted_octet;
@@ -52,8 +50,7 @@ impl Threefold {
     // How many received octets differ from the word of the voted message, to which no message's word is nearer.
     fn faults(&self, received: &[u8]) -> usize
         requires { ⌜ length (now received) ≡ now self .sizes .word ⌝ }
-        ensures near { λ r. ⌜ (r ≤ now (self .entry) .sizes .repairs → Near (threefoldCode (now (self .entry))) (now (received .entry)) (voted (now (self .entry) .sizes .frame) (now (received .entry))) r) ⌝ }
-        ensures far { λ r. ⌜ (now (self .entry) .sizes .repairs < r → NoneNear (threefoldCode (now (self .entry))) (now (received .entry))) ⌝ }
+        ensures { λ r. ⌜ Judged (now (self .entry)) (now (received .entry)) r ⌝ }
     {
         let mut faults = 0;
         for place in 0..self.sizes.frame {

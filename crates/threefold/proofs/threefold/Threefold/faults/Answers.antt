@@ -1,6 +1,6 @@
 use mathlib.Core.Path.{sym}
 use native.Mathlib.Omega.{arith}
-use Rattle.threefold.proofs.Nearest.{upto-none, odd-more, thirds, counted, vote-near, none-near}
+use Rattle.threefold.proofs.Nearest.{upto-none, odd-more, thirds, judged}
 use Rattle.threefold.specs.Votes.{voted}
 use Rattle.threefold.proofs.threefold.Threefold.faults.Needs as need
 
@@ -19,10 +19,5 @@ loop-place-again c =
 
 pub returns : need.returns
 returns c =
-    let s = c .args .self .now in
-    let r = c .args .received .now in
-    let differing = counted s r (c .pre) (c .loop-place .faults) (c .loop-place .place) (omega arith) (c .loop-place .inv .0) in
-    record {
-      near = vote-near s r (c .pre) (c .loop-place .faults) (λ i. c .typed .received i .fits) differing;
-      far = none-near s r (c .pre) (c .loop-place .faults) differing;
-    }
+    judged (c .args .self .now) (c .args .received .now) (c .pre) (c .loop-place .faults) (c .loop-place .place)
+    (λ i. c .typed .received i .fits) (omega arith) (c .loop-place .inv .0)
