@@ -2,3 +2,4 @@
 pub mod threefold;
 
 pub use threefold::Threefold;
+pub use threefold::coding::ThreefoldCoder;

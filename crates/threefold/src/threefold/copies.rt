@@ -41,15 +41,7 @@ pub(super) fn odd_octets(received: &[u8], frame: usize, place: usize) -> usize
     ensures bound { λ r. ⌜ r ≤ 3 ⌝ }
 {
     let octet = voted_octet(received, frame, place);
-    let mut odd = 0;
-    if received[place] != octet {
-        odd += 1;
-    }
-    if received[frame + place] != octet {
-        odd += 1;
-    }
-    if received[2 * frame + place] != octet {
-        odd += 1;
-    }
-    odd
+    usize::from(received[place] != octet)
+        + usize::from(received[frame + place] != octet)
+        + usize::from(received[2 * frame + place] != octet)
 }
