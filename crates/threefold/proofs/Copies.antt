@@ -22,7 +22,7 @@ copy-behind front back m a n fl ml =
 
 pub three-copies : (m word : List ℕ) → length word ≡ 3 * length m
     → putMid (2 * length m) (3 * length m - 2 * length m)
-      (putMid (length m) (2 * length m - length m) (putMid 0 (length m - 0) word m) m) m ≡ thrice m
+    (putMid (length m) (2 * length m - length m) (putMid 0 (length m - 0) word m) m) m ≡ thrice m
 three-copies m word long =
     let k : ℕ = length m in
     let one = copy-behind [] word m 0 (k - 0) refl (omega arith) in

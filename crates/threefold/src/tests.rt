@@ -147,9 +147,6 @@ fn longest() -> Result<(), Fail> {
     check_eq(message, [7; 85])?;
     received[0] = 0;
     message = [0; 85];
-    check_eq(
-        coder.decode(&received, &mut message),
-        Err(Undecoded::Lost),
-    )?;
+    check_eq(coder.decode(&received, &mut message), Err(Undecoded::Lost))?;
     check_eq(message, [0; 85])
 }
