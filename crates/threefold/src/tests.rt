@@ -59,7 +59,7 @@ fn words() -> Result<(), Fail> {
 
 // A buffer of another length is refused, the message's before the word's, and nothing is written.
 #[test]
-fn lengths() -> Result<(), Fail> {
+fn encode_lengths() -> Result<(), Fail> {
     let coder = Threefold::new(3, 0)?;
     let mut word = [9; 9];
     let mut short = [9; 8];
@@ -67,7 +67,14 @@ fn lengths() -> Result<(), Fail> {
     check_eq(coder.encode(&[1, 2, 3, 4], &mut short), Err(Misfit::Frame))?;
     check_eq(coder.encode(&[1, 2, 3], &mut short), Err(Misfit::Line))?;
     check_eq(word, [9; 9])?;
-    check_eq(short, [9; 8])?;
+    check_eq(short, [9; 8])
+}
+
+#[test]
+fn decode_lengths() -> Result<(), Fail> {
+    let coder = Threefold::new(3, 0)?;
+    let word = [9; 9];
+    let short = [9; 8];
     let mut message = [5; 3];
     let mut pair = [5; 2];
     let frame = Err(Undecoded::Unfit(Misfit::Frame));
