@@ -1,7 +1,6 @@
 -- Lists of octets. Assumes nothing.
 use mathlib.Core.List.{List, [], _∷_, _++_}
-use Prim.Native.Nat.{ℕ, zero, suc, _<_}
-use lib.ListN.{getD}
+use Prim.Native.Nat.{ℕ, zero, suc}
 use Rattle.coder.specs.Codes.{Octets}
 
 pub octets-append : (a b : List ℕ) → Octets a → Octets b → Octets (a ++ b)

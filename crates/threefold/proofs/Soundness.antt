@@ -1,14 +1,13 @@
 -- The threefold code is sound. Assumes nothing.
 use mathlib.Core.Path.{_≡_, sym, _∙_}
 use mathlib.Core.List.{List, _++_}
-use mathlib.Core.Logic.{_≢_}
-use mathlib.Core.Logic.{_⊎_, inl, inr}
+use mathlib.Core.Logic.{_⊎_, inl, inr, _≢_}
 use Prim.Native.Nat.{ℕ, _+_, _*_, _≤_, _<_}
 use native.Mathlib.Omega.{arith}
 use lib.ListN.{length}
 use Rattle.std.proofs.shelf.Lists.{length-append}
 use Rattle.std.proofs.shelf.Tests.{cases-lt}
-use Rattle.coder.specs.Codes.{Message, Sound, distance}
+use Rattle.coder.specs.Codes.{Sound, distance}
 use Rattle.coder.proofs.Distances.{distance-append, distance-zero}
 use Rattle.coder.proofs.Octets.{octets-append}
 use Rattle.threefold.specs.declared.threefold.Threefold.{Threefold}

@@ -1,4 +1,5 @@
--- The message that most copies of a received word speak for. Assumes nothing.
+-- The message that most copies of a received word speak for: words of the private functions, no public contract cites them.
+-- Assumes nothing.
 use mathlib.Core.Bool.{cond}
 use mathlib.Core.List.{List, map}
 use Prim.Native.Nat.{ℕ, _+_, _*_, _≤_, _<_}

@@ -1,5 +1,3 @@
-use mathlib.Core.Path.{_≡_, _∙_}
-use borrow.Author.Needs.{needs}
 use Rattle.threefold.proofs.Copies.{three-copies}
 use Rattle.threefold.proofs.threefold.copies.write_thrice.Needs as need
 
