@@ -1,2 +1,4 @@
 pub mod Settled
 pub mod Blocks
+pub mod Passing
+pub mod SenderLine

@@ -1,0 +1,226 @@
+-- The line of a sender's run. Assumes nothing.
+use mathlib.Core.Path.{_≡_, refl, sym, ap, ap₂, subst, _∙_}
+use mathlib.Core.Bool.{Bool, true, false, true≢false}
+use mathlib.Core.Logic.{_⊎_, inl, inr}
+use mathlib.Core.List.{List, [], _∷_, _++_}
+use Prim.{Unit, ⊥, tt}
+use Prim.Native.Nat.{ℕ, zero, suc, _+_, _-_, _*_, _/_, _%_, _<_, _≤_}
+use native.Mathlib.Nat.{add-mul, div-add-mod', mod-lt, mul-assoc, suc-mul, zero-mul}
+use native.Mathlib.Omega.{arith}
+use lib.Arith.{digits-div, digits-lt, digits-mod}
+use lib.Dec.{eqb, ltb}
+use lib.ListN.{length, getD, replicate}
+use Rattle.std.specs.declared.result.Result.{Result}
+use Rattle.std.specs.declared.result.Result.the-variants.{Ok, Err}
+use Rattle.std.specs.shelf.Lists.{All}
+use Rattle.std.proofs.shelf.Elements.{all-getD}
+use Rattle.std.proofs.shelf.Lists.{getD-append-add, getD-append-left, getD-append-right, getD-past, getD-push, getD-replicate, length-append, length-push, length-replicate}
+use Rattle.std.proofs.shelf.Tests.{and-parts, cases-lt, eqb-true}
+use Rattle.places.specs.Line.{Plan, place}
+use Rattle.coder.specs.Codes.{Code, Octets}
+use Rattle.scrambler.specs.Scrambler.{scrambled, after}
+use Rattle.scrambler.proofs.Scrambling.{length-scrambled, scrambled-octets}
+use Rattle.delay.specs.declared.triangle.Triangle.{Triangle}
+use Rattle.delay.specs.Triangles.{memoryOf, queue, rising, waitOf}
+use Rattle.runs.specs.Blocks.{through}
+use Rattle.runs.specs.Senders.{Draining, Drained, Interleaves, Sending, Sent, drainAnswer, ended, frameFits, lineFits, mostWords, sendAnswer, sendersBank, unless}
+use Rattle.runs.specs.Histories.{DrainingRun, SenderRun, SendingRun, draining, drains, ends, opens, sending, sends}
+use Rattle.runs.specs.Histories as histories
+use Rattle.runs.specs.Theorem.{LineHolds, earlierAt, frameAt, sentAt, wordAt}
+use Rattle.runs.proofs.Settled.{Fits, Settled}
+use Rattle.runs.proofs.Passing.{Passed, cleared-memory, length-out, none-passed, out-first, out-then, pass-on}
+
+-- ---- tests that a call passed
+
+refused : Result (Unit {0}) ℕ → Bool
+refused (Ok u) = false
+refused (Err n) = true
+
+pub test-passed : (test : Bool) (number : ℕ) (others : Result (Unit {0}) ℕ) → unless test number others ≡ Ok tt
+    → (test ≡ true) × (others ≡ Ok tt)
+unfolding refused
+test-passed true number others e = (refl, e)
+test-passed false number others e = absurd (true≢false (ap refused e))
+
+-- ---- the words of frames
+
+octets-at : (xs : List ℕ) → All (λ m. m < 256) xs → Octets xs
+octets-at xs h k = go (cases-lt k (length xs))
+  where
+    go : (k < length xs) ⊎ (length xs ≤ k) → getD xs k 0 < 256
+    go (inl l) = all-getD (λ m. m < 256) xs k 0 l h
+    go (inr l) = rw (getD-past xs k 0 l) (omega arith)
+
+zeros-at : (n k : ℕ) → let none : ℕ = 0 in getD (replicate n none) k none ≡ none
+zeros-at n k = go (cases-lt k n)
+  where
+    none : ℕ
+    none = 0
+
+    go : (k < n) ⊎ (n ≤ k) → getD (replicate n none) k none ≡ none
+    go (inl l) = getD-replicate n k none none l
+    go (inr l) = getD-past (replicate n none) k none (omega (arith, length-replicate n none))
+
+-- the word of an accepted frame, whatever the earlier bits
+pub length-word : {p : Plan} {c : Code} → Fits p c → (earlier : List Bool) (frame : List ℕ) → length frame ≡ p .frame
+    → length (c .wordOf (scrambled earlier frame)) ≡ p .word
+length-word fits earlier frame whole =
+    fits .sound .word-long (scrambled earlier frame) (record {
+      long = length-scrambled earlier frame ∙ whole ∙ sym (fits .frame);
+      octets = octets-at (scrambled earlier frame) (scrambled-octets earlier frame);
+    })
+    ∙ fits .word
+
+-- frames sent later change nothing of earlier ones
+pub earlier-same : (frames more : List (List ℕ)) (n : ℕ) → n ≤ length frames → earlierAt (frames ++ more) n ≡ earlierAt frames n
+unfolding earlierAt
+earlier-same frames more zero h = refl
+earlier-same frames more (suc n) h =
+    ap₂ (λ e f. after e (scrambled e f)) (earlier-same frames more n (omega arith)) (getD-append-left frames more [] n (omega arith))
+
+pub word-same : (c : Code) (frames more : List (List ℕ)) (n : ℕ) → n < length frames → wordAt c (frames ++ more) n ≡ wordAt c frames n
+word-same c frames more n h =
+    ap₂ (λ e f. c .wordOf (scrambled e f)) (earlier-same frames more n (omega arith)) (getD-append-left frames more [] n h)
+
+-- the frame sent last
+last-frame : (frames : List (List ℕ)) (frame : List ℕ) → frameAt (frames ++ frame ∷ []) (length frames) ≡ frame
+last-frame frames frame = getD-push frames frame [] (length frames) refl
+
+pub last-word : (c : Code) (frames : List (List ℕ)) (frame : List ℕ)
+    → wordAt c (frames ++ frame ∷ []) (length frames) ≡ c .wordOf (scrambled (earlierAt frames (length frames)) frame)
+last-word c frames frame =
+    ap₂ (λ e f. c .wordOf (scrambled e f)) (earlier-same frames (frame ∷ []) (length frames) (omega arith)) (last-frame frames frame)
+
+last-earlier : (frames : List (List ℕ)) (frame : List ℕ) → let e = earlierAt frames (length frames) in
+    earlierAt (frames ++ frame ∷ []) (suc (length frames)) ≡ after e (scrambled e frame)
+unfolding earlierAt
+last-earlier frames frame =
+    ap₂ (λ e f. after e (scrambled e f)) (earlier-same frames (frame ∷ []) (length frames) (omega arith)) (last-frame frames frame)
+
+-- ---- what a sender has put on the line
+
+-- The words of all frames have entered the interleaver in order, and zeros since.
+pub record Sends (p : Plan) (c : Code) (frames : List (List ℕ)) (line : List ℕ) (clock : ℕ) (memory : List ℕ) : Type 0 where
+  pub entered : List ℕ
+  pub passed : Passed (rising (p .block) (p .step)) 0 clock (sendersBank p clock memory) entered line
+  pub enough : length frames * p .word ≤ length entered
+  pub held : (n k : ℕ) → n < length frames → k < p .word → getD entered (n * p .word + k) 0 ≡ getD (wordAt c frames n) k 0
+  pub zeros : (i : ℕ) → length frames * p .word ≤ i → getD entered i 0 ≡ 0
+
+pub record SendsNow (p : Plan) (c : Code) (frames : List (List ℕ)) (line : List ℕ) (s : Sending) (memory : List ℕ) : Type 0 where
+  pub words : s .words ≡ length frames
+  pub earlier : s .earlier ≡ earlierAt frames (length frames)
+  pub sends : Sends p c frames line (s .words * p .parts) memory
+
+at-clock : {p : Plan} {c : Code} {frames : List (List ℕ)} {line memory : List ℕ} {clock clock′ : ℕ} → clock ≡ clock′
+    → Sends p c frames line clock memory → Sends p c frames line clock′ memory
+at-clock {p} {c} {frames} {line} {memory} e h = subst (λ u. Sends p c frames line u memory) e h
+
+module _ {p : Plan} {c : Code} (settled : Settled p) (fits : Fits p c) where
+  none-sent : Sends p c [] [] 0 (replicate (p .memory) 0)
+  none-sent = record {
+    entered = [];
+    passed = rw (settled .remembers) (none-passed t 0 (queue t 0 (replicate (memoryOf t) 0)) (cleared-memory t 0 0));
+    enough = omega (arith, zero-mul (p .word));
+    held = λ n k h l. absurd (omega arith);
+    zeros = λ i h. refl;
+  }
+    where
+      t : Triangle
+      t = rising (p .block) (p .step)
+
+  -- N octets more enter
+  enters : {frames : List (List ℕ)} {line memory memory′ : List ℕ} {clock : ℕ} (sent : Sends p c frames line clock memory)
+      → (entering written : List ℕ) → length entering ≡ p .word → Interleaves p clock memory memory′ entering written
+      → Passed (rising (p .block) (p .step)) 0 (clock + p .parts) (sendersBank p (clock + p .parts) memory′) (sent .entered ++ entering) (line ++ written)
+  enters {line = line} {memory} {memory′} {clock} sent entering written whole interleaves =
+      let t = rising (p .block) (p .step) in
+      rw (interleaves .line-octets)
+      (pass-on t 0 (sent .passed) (p .parts) (sendersBank p (clock + p .parts) memory′) entering (whole ∙ sym (settled .laid .whole)) (interleaves .waits))
+
+  word-enters : {frames : List (List ℕ)} {line : List ℕ} {s s′ : Sending} {memory memory′ : List ℕ} (frame written : List ℕ)
+      → SendsNow p c frames line s memory → length frame ≡ p .frame → Sent p c s s′ memory memory′ frame written
+      → SendsNow p c (frames ++ frame ∷ []) (line ++ written) s′ memory′
+  word-enters {frames} {line} {s} {s′} {memory} {memory′} frame written now whole sent = record {
+    words = sent .words ∙ ap suc (now .words) ∙ sym count;
+    earlier = sent .earlier ∙ ap (λ e. after e (scrambled e frame)) (now .earlier)
+        ∙ sym (last-earlier frames frame) ∙ ap (earlierAt (frames ++ frame ∷ [])) (sym count);
+    sends = at-clock (sym (ap (λ w. w * p .parts) (sent .words) ∙ suc-mul (s .words) (p .parts))) (record {
+      entered = so-far ++ word;
+      passed = enters (now .sends) word written long (sent .interleaves);
+      enough = omega (arith, all-entered, length-append so-far word, long, ap (λ m. m * p .word) count, suc-mul (length frames) (p .word));
+      held = λ n k h l. held-at n k (cases-lt n (length frames)) h l;
+      zeros = λ i h. getD-past (so-far ++ word) i 0
+          (omega (arith, all-entered, length-append so-far word, long, ap (λ m. m * p .word) count, suc-mul (length frames) (p .word)));
+    });
+  }
+    where
+      word : List ℕ
+      word = c .wordOf (scrambled (s .earlier) frame)
+
+      so-far : List ℕ
+      so-far = now .sends .entered
+
+      long : length word ≡ p .word
+      long = length-word fits (s .earlier) frame whole
+
+      count : length (frames ++ frame ∷ []) ≡ suc (length frames)
+      count = length-push frames frame ∙ omega arith
+
+      all-entered : length so-far ≡ length frames * p .word
+      all-entered =
+          now .sends .passed .long ∙ ap (λ w. w * p .parts * p .block) (now .words)
+          ∙ mul-assoc (length frames) (p .parts) (p .block) ∙ ap (λ x. length frames * x) (settled .laid .whole)
+
+      held-at : (n k : ℕ) → (n < length frames) ⊎ (length frames ≤ n) → n < length (frames ++ frame ∷ []) → k < p .word
+          → getD (so-far ++ word) (n * p .word + k) 0 ≡ getD (wordAt c (frames ++ frame ∷ []) n) k 0
+      held-at n k (inl h) _ l =
+          getD-append-left so-far word 0 (n * p .word + k) (rw all-entered (digits-lt h l)) ∙ now .sends .held n k h l
+          ∙ ap (λ w. getD w k 0) (sym (word-same c frames (frame ∷ []) n h))
+      held-at n k (inr h) m l =
+          let e : n ≡ length frames = omega (arith, count) in
+          ap (λ i. getD (so-far ++ word) i 0) (omega (arith, ap (λ i. i * p .word) e, all-entered))
+          ∙ getD-append-add so-far word k 0
+          ∙ ap (λ e. getD (c .wordOf (scrambled e frame)) k 0) (now .earlier)
+          ∙ ap (λ w. getD w k 0) (sym (last-word c frames frame))
+          ∙ ap (λ i. getD (wordAt c (frames ++ frame ∷ []) i) k 0) (sym e)
+
+  zeros-enter : {frames : List (List ℕ)} {line memory memory′ : List ℕ} {clock : ℕ} (written : List ℕ) → Sends p c frames line clock memory
+      → Interleaves p clock memory memory′ (replicate (p .word) 0) written → Sends p c frames (line ++ written) (clock + p .parts) memory′
+  zeros-enter {frames} written sent interleaves = record {
+    entered = so-far ++ none;
+    passed = enters sent none written (length-replicate (p .word) 0) interleaves;
+    enough = omega (arith, sent .enough, length-append so-far none);
+    held = λ n k h l. getD-append-left so-far none 0 (n * p .word + k) (omega (arith, digits-lt h l, sent .enough)) ∙ sent .held n k h l;
+    zeros = λ i h. zero-at i h (cases-lt i (length so-far));
+  }
+    where
+      none : List ℕ
+      none = replicate (p .word) 0
+
+      so-far : List ℕ
+      so-far = sent .entered
+
+      zero-at : (i : ℕ) → length frames * p .word ≤ i → (i < length so-far) ⊎ (length so-far ≤ i) → getD (so-far ++ none) i 0 ≡ 0
+      zero-at i h (inl l) = getD-append-left so-far none 0 i l ∙ sent .zeros i h
+      zero-at i h (inr l) = getD-append-right so-far none (length so-far) i 0 refl l ∙ zeros-at (p .word) (i - length so-far)
+
+  -- ---- histories
+
+  sends-now : {frames : List (List ℕ)} {line : List ℕ} {s : Sending} {memory : List ℕ} → SendingRun p c frames line s memory
+      → SendsNow p c frames line s memory
+  unfolding earlierAt
+  sends-now opens = record { words = refl; earlier = refl; sends = at-clock (sym (zero-mul (p .parts))) none-sent }
+  sends-now (sends {s = s} {memory = memory} frame before written run answer sent) =
+      let tests = test-passed (ltb (s .words) mostWords) 10 _ answer .1 in
+      let fitting = test-passed (frameFits p c frame) 5 _ tests .0 in
+      word-enters frame written (sends-now run) (eqb-true (length frame) (p .frame) (and-parts (eqb (length frame) (p .frame)) _ fitting .0)) sent
+  sends-now (histories.SendingRun.refuses run) = sends-now run
+
+  drains-now : {frames : List (List ℕ)} {line : List ℕ} {s : Draining} {memory : List ℕ} → DrainingRun p c frames line s memory
+      → Sends p c frames line ((s .words + s .drained) * p .parts) memory
+  drains-now (ends {s = s} run) = at-clock (ap (λ w. w * p .parts) (omega arith)) (sends-now run .sends)
+  drains-now (drains {s = s} {s′ = s′} before written run answer drained) =
+      let e : s′ .words + s′ .drained ≡ suc (s .words + s .drained) = omega (arith, drained .words, drained .drained) in
+      at-clock (sym (ap (λ w. w * p .parts) e ∙ suc-mul (s .words + s .drained) (p .parts))) (zeros-enter written (drains-now run) (drained .interleaves))
+  drains-now (histories.DrainingRun.refuses run) = drains-now run
