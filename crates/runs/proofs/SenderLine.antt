@@ -5,7 +5,7 @@ use mathlib.Core.Logic.{_⊎_, inl, inr}
 use mathlib.Core.List.{List, [], _∷_, _++_}
 use Prim.{Unit, ⊥, tt}
 use Prim.Native.Nat.{ℕ, zero, suc, _+_, _-_, _*_, _/_, _%_, _<_, _≤_}
-use native.Mathlib.Nat.{add-mul, div-add-mod', mod-lt, mul-assoc, suc-mul, zero-mul}
+use native.Mathlib.Nat.{add-mul, div-add-mod', div-lt-iff-lt-mul, mod-lt, mul-assoc, mul-le-mul-right, suc-mul, zero-mul}
 use native.Mathlib.Omega.{arith}
 use lib.Arith.{digits-div, digits-lt, digits-mod}
 use lib.Dec.{eqb, ltb}
@@ -224,3 +224,121 @@ module _ {p : Plan} {c : Code} (settled : Settled p) (fits : Fits p c) where
       let e : s′ .words + s′ .drained ≡ suc (s .words + s .drained) = omega (arith, drained .words, drained .drained) in
       at-clock (sym (ap (λ w. w * p .parts) e ∙ suc-mul (s .words + s .drained) (p .parts))) (zeros-enter written (drains-now run) (drained .interleaves))
   drains-now (histories.DrainingRun.refuses run) = drains-now run
+
+  -- ---- places
+
+  -- octet k of word n is element (n × q + k / I, k % I) of the stream
+  pub stream-place : (n k : ℕ) → (n * p .parts + k / p .block) * p .block + k % p .block ≡ n * p .word + k
+  stream-place n k =
+      let whole : n * p .parts * p .block ≡ n * p .word
+      = mul-assoc n (p .parts) (p .block) ∙ ap (λ x. n * x) (settled .laid .whole) in
+      omega (arith, whole, add-mul (n * p .parts) (k / p .block) (p .block), div-add-mod' k (p .block))
+
+  pub some-word : 0 < p .word
+  some-word =
+      let h : 0 * p .block + 0 < p .parts * p .block = digits-lt (settled .some-parts) (settled .laid .some) in
+      omega (arith, h, settled .laid .whole)
+
+  row-below : (u j clock : ℕ) → u * p .block + j < clock * p .block → u < clock
+  row-below u j clock h = go (cases-lt u clock)
+    where
+      go : (u < clock) ⊎ (clock ≤ u) → u < clock
+      go (inl l) = l
+      go (inr l) = let m : clock * p .block ≤ u * p .block = mul-le-mul-right (p .block) l in absurd (omega (arith, m, h))
+
+  wait-is : (j : ℕ) → waitOf (rising (p .block) (p .step)) j ≡ p .step * j
+  unfolding waitOf
+  wait-is j = refl
+
+  module _ {frames : List (List ℕ)} {line memory : List ℕ} {clock : ℕ} (sent : Sends p c frames line clock memory) where
+    length-line : length line ≡ clock * p .block
+    length-line = length-out (rising (p .block) (p .step)) 0 (sent .passed)
+
+    words-stand : (n k : ℕ) → n < length frames → k < p .word → place p n k < length line
+        → sentAt line (place p n k) ≡ getD (wordAt c frames n) k 0
+    unfolding place
+    words-stand n k h l m =
+        let v = n * p .parts + k / p .block in
+        let j = k % p .block in
+        let u = v + p .step * j in
+        let below : u < clock = row-below u j clock (omega (arith, m, length-line)) in
+        out-then (rising (p .block) (p .step)) 0 (sent .passed) u v j below (mod-lt k (settled .laid .some)) 0 (omega (arith, wait-is j))
+        ∙ ap (λ i. getD (sent .entered) i 0) (stream-place n k) ∙ sent .held n k h l
+
+    -- the octet that stands at a place
+    module _ (i : ℕ) (none : (n k : ℕ) → n < length frames → k < p .word → place p n k ≡ i → ⊥) where
+      past-words : (v : ℕ) → v + p .step * (i % p .block) ≡ i / p .block → length frames * p .word ≤ v * p .block + i % p .block
+      unfolding place
+      past-words v row = go (cases-lt e (length frames * p .word))
+        where
+          j : ℕ
+          j = i % p .block
+
+          e : ℕ
+          e = v * p .block + j
+
+          n : ℕ
+          n = e / p .word
+
+          k : ℕ
+          k = e % p .word
+
+          same : v * p .block + j ≡ (n * p .parts + k / p .block) * p .block + k % p .block
+          same = sym (div-add-mod' e (p .word)) ∙ sym (stream-place n k)
+
+          j-lt : j < p .block
+          j-lt = mod-lt i (settled .laid .some)
+
+          k-lt : k % p .block < p .block
+          k-lt = mod-lt k (settled .laid .some)
+
+          branch : k % p .block ≡ j
+          branch = sym (digits-mod (n * p .parts + k / p .block) k-lt) ∙ ap (λ x. x % p .block) (sym same) ∙ digits-mod v j-lt
+
+          block-row : n * p .parts + k / p .block ≡ v
+          block-row = sym (digits-div (n * p .parts + k / p .block) k-lt) ∙ ap (λ x. x / p .block) (sym same) ∙ digits-div v j-lt
+
+          there : place p n k ≡ i
+          there =
+              unfold place in ap₂ (λ b x. (b + p .step * x) * p .block + x) block-row branch
+              ∙ ap (λ r. r * p .block + j) row ∙ div-add-mod' i (p .block)
+
+          go : (e < length frames * p .word) ⊎ (length frames * p .word ≤ e) → length frames * p .word ≤ e
+          go (inl h) = absurd (none n k (div-lt-iff-lt-mul some-word .1 h) (mod-lt e some-word) there)
+          go (inr h) = h
+
+      nothing-stands : sentAt line i ≡ 0
+      nothing-stands = go (cases-lt i (length line)) (cases-lt (i / p .block) (p .step * (i % p .block)))
+        where
+          u : ℕ
+          u = i / p .block
+
+          j : ℕ
+          j = i % p .block
+
+          t : Triangle
+          t = rising (p .block) (p .step)
+
+          j-lt : j < p .block
+          j-lt = mod-lt i (settled .laid .some)
+
+          at : sentAt line i ≡ sentAt line (u * p .block + j)
+          at = ap (sentAt line) (sym (div-add-mod' i (p .block)))
+
+          below : i < length line → u < clock
+          below h = row-below u j clock (omega (arith, h, length-line, div-add-mod' i (p .block)))
+
+          go : (i < length line) ⊎ (length line ≤ i) → (u < p .step * j) ⊎ (p .step * j ≤ u) → sentAt line i ≡ 0
+          go (inr h) _ = getD-past line i 0 h
+          go (inl h) (inl l) = at ∙ out-first t 0 (sent .passed) u j (below h) j-lt 0 (omega (arith, wait-is j))
+          go (inl h) (inr l) =
+              let v = u - p .step * j in
+              at ∙ out-then t 0 (sent .passed) u v j (below h) j-lt 0 (omega (arith, wait-is j, l))
+              ∙ sent .zeros (v * p .block + j) (past-words v (omega (arith, l)))
+
+    stands : LineHolds p c frames line
+    stands = record { words = words-stand; others = nothing-stands }
+
+  pub line-holds : (frames : List (List ℕ)) (line : List ℕ) → SenderRun p c frames line → LineHolds p c frames line
+  line-holds frames line (sending s memory run) = stands (sends-now run .sends)
+  line-holds frames line (draining s memory run) = stands (drains-now run)
