@@ -1,4 +1,6 @@
 pub mod Settled
 pub mod Blocks
 pub mod Passing
+pub mod Refusals
+pub mod Rows
 pub mod SenderLine

@@ -1,17 +1,15 @@
 -- The line of a sender's run. Assumes nothing.
 use mathlib.Core.Path.{_≡_, refl, sym, ap, ap₂, subst, _∙_}
-use mathlib.Core.Bool.{Bool, true, false, true≢false}
+use mathlib.Core.Bool.{Bool}
 use mathlib.Core.Logic.{_⊎_, inl, inr}
 use mathlib.Core.List.{List, [], _∷_, _++_}
-use Prim.{Unit, ⊥, tt}
+use Prim.{⊥}
 use Prim.Native.Nat.{ℕ, zero, suc, _+_, _-_, _*_, _/_, _%_, _<_, _≤_}
-use native.Mathlib.Nat.{add-mul, div-add-mod', div-lt-iff-lt-mul, mod-lt, mul-assoc, mul-le-mul-right, suc-mul, zero-mul}
+use native.Mathlib.Nat.{div-add-mod', div-lt-iff-lt-mul, mod-lt, suc-mul, zero-mul}
 use native.Mathlib.Omega.{arith}
 use lib.Arith.{digits-div, digits-lt, digits-mod}
 use lib.Dec.{eqb, ltb}
 use lib.ListN.{length, getD, replicate}
-use Rattle.std.specs.declared.result.Result.{Result}
-use Rattle.std.specs.declared.result.Result.the-variants.{Ok, Err}
 use Rattle.std.specs.shelf.Lists.{All}
 use Rattle.std.proofs.shelf.Elements.{all-getD}
 use Rattle.std.proofs.shelf.Lists.{getD-append-add, getD-append-left, getD-append-right, getD-past, getD-push, getD-replicate, length-append, length-push, length-replicate}
@@ -22,25 +20,14 @@ use Rattle.scrambler.specs.Scrambler.{scrambled, after}
 use Rattle.scrambler.proofs.Scrambling.{length-scrambled, scrambled-octets}
 use Rattle.delay.specs.declared.triangle.Triangle.{Triangle}
 use Rattle.delay.specs.Triangles.{memoryOf, queue, rising, waitOf}
-use Rattle.runs.specs.Blocks.{through}
-use Rattle.runs.specs.Senders.{Draining, Drained, Interleaves, Sending, Sent, drainAnswer, ended, frameFits, lineFits, mostWords, sendAnswer, sendersBank, unless}
+use Rattle.runs.specs.Senders.{Draining, Drained, Interleaves, Sending, Sent, drainAnswer, ended, frameFits, mostWords, sendAnswer, sendersBank, unless}
 use Rattle.runs.specs.Histories.{DrainingRun, SenderRun, SendingRun, draining, drains, ends, opens, sending, sends}
 use Rattle.runs.specs.Histories as histories
 use Rattle.runs.specs.Theorem.{LineHolds, earlierAt, frameAt, sentAt, wordAt}
 use Rattle.runs.proofs.Settled.{Fits, Settled}
+use Rattle.runs.proofs.Refusals.{test-passed}
+use Rattle.runs.proofs.Rows.{row-below, some-word, stream-place, words-blocks}
 use Rattle.runs.proofs.Passing.{Passed, cleared-memory, length-out, none-passed, out-first, out-then, pass-on}
-
--- ---- tests that a call passed
-
-refused : Result (Unit {0}) ℕ → Bool
-refused (Ok u) = false
-refused (Err n) = true
-
-pub test-passed : (test : Bool) (number : ℕ) (others : Result (Unit {0}) ℕ) → unless test number others ≡ Ok tt
-    → (test ≡ true) × (others ≡ Ok tt)
-unfolding refused
-test-passed true number others e = (refl, e)
-test-passed false number others e = absurd (true≢false (ap refused e))
 
 -- ---- the words of frames
 
@@ -169,8 +156,7 @@ module _ {p : Plan} {c : Code} (settled : Settled p) (fits : Fits p c) where
 
       all-entered : length so-far ≡ length frames * p .word
       all-entered =
-          now .sends .passed .long ∙ ap (λ w. w * p .parts * p .block) (now .words)
-          ∙ mul-assoc (length frames) (p .parts) (p .block) ∙ ap (λ x. length frames * x) (settled .laid .whole)
+          now .sends .passed .long ∙ ap (λ w. w * p .parts * p .block) (now .words) ∙ words-blocks settled (length frames)
 
       held-at : (n k : ℕ) → (n < length frames) ⊎ (length frames ≤ n) → n < length (frames ++ frame ∷ []) → k < p .word
           → getD (so-far ++ word) (n * p .word + k) 0 ≡ getD (wordAt c (frames ++ frame ∷ []) n) k 0
@@ -227,25 +213,6 @@ module _ {p : Plan} {c : Code} (settled : Settled p) (fits : Fits p c) where
 
   -- ---- places
 
-  -- octet k of word n is element (n × q + k / I, k % I) of the stream
-  pub stream-place : (n k : ℕ) → (n * p .parts + k / p .block) * p .block + k % p .block ≡ n * p .word + k
-  stream-place n k =
-      let whole : n * p .parts * p .block ≡ n * p .word
-      = mul-assoc n (p .parts) (p .block) ∙ ap (λ x. n * x) (settled .laid .whole) in
-      omega (arith, whole, add-mul (n * p .parts) (k / p .block) (p .block), div-add-mod' k (p .block))
-
-  pub some-word : 0 < p .word
-  some-word =
-      let h : 0 * p .block + 0 < p .parts * p .block = digits-lt (settled .some-parts) (settled .laid .some) in
-      omega (arith, h, settled .laid .whole)
-
-  row-below : (u j clock : ℕ) → u * p .block + j < clock * p .block → u < clock
-  row-below u j clock h = go (cases-lt u clock)
-    where
-      go : (u < clock) ⊎ (clock ≤ u) → u < clock
-      go (inl l) = l
-      go (inr l) = let m : clock * p .block ≤ u * p .block = mul-le-mul-right (p .block) l in absurd (omega (arith, m, h))
-
   wait-is : (j : ℕ) → waitOf (rising (p .block) (p .step)) j ≡ p .step * j
   unfolding waitOf
   wait-is j = refl
@@ -261,9 +228,9 @@ module _ {p : Plan} {c : Code} (settled : Settled p) (fits : Fits p c) where
         let v = n * p .parts + k / p .block in
         let j = k % p .block in
         let u = v + p .step * j in
-        let below : u < clock = row-below u j clock (omega (arith, m, length-line)) in
+        let below : u < clock = row-below settled u j clock (omega (arith, m, length-line)) in
         out-then (rising (p .block) (p .step)) 0 (sent .passed) u v j below (mod-lt k (settled .laid .some)) 0 (omega (arith, wait-is j))
-        ∙ ap (λ i. getD (sent .entered) i 0) (stream-place n k) ∙ sent .held n k h l
+        ∙ ap (λ i. getD (sent .entered) i 0) (stream-place settled n k) ∙ sent .held n k h l
 
     -- the octet that stands at a place
     module _ (i : ℕ) (none : (n k : ℕ) → n < length frames → k < p .word → place p n k ≡ i → ⊥) where
@@ -284,7 +251,7 @@ module _ {p : Plan} {c : Code} (settled : Settled p) (fits : Fits p c) where
           k = e % p .word
 
           same : v * p .block + j ≡ (n * p .parts + k / p .block) * p .block + k % p .block
-          same = sym (div-add-mod' e (p .word)) ∙ sym (stream-place n k)
+          same = sym (div-add-mod' e (p .word)) ∙ sym (stream-place settled n k)
 
           j-lt : j < p .block
           j-lt = mod-lt i (settled .laid .some)
@@ -304,7 +271,7 @@ module _ {p : Plan} {c : Code} (settled : Settled p) (fits : Fits p c) where
               ∙ ap (λ r. r * p .block + j) row ∙ div-add-mod' i (p .block)
 
           go : (e < length frames * p .word) ⊎ (length frames * p .word ≤ e) → length frames * p .word ≤ e
-          go (inl h) = absurd (none n k (div-lt-iff-lt-mul some-word .1 h) (mod-lt e some-word) there)
+          go (inl h) = absurd (none n k (div-lt-iff-lt-mul (some-word settled) .1 h) (mod-lt e (some-word settled)) there)
           go (inr h) = h
 
       nothing-stands : sentAt line i ≡ 0
@@ -326,7 +293,7 @@ module _ {p : Plan} {c : Code} (settled : Settled p) (fits : Fits p c) where
           at = ap (sentAt line) (sym (div-add-mod' i (p .block)))
 
           below : i < length line → u < clock
-          below h = row-below u j clock (omega (arith, h, length-line, div-add-mod' i (p .block)))
+          below h = row-below settled u j clock (omega (arith, h, length-line, div-add-mod' i (p .block)))
 
           go : (i < length line) ⊎ (length line ≤ i) → (u < p .step * j) ⊎ (p .step * j ≤ u) → sentAt line i ≡ 0
           go (inr h) _ = getD-past line i 0 h
