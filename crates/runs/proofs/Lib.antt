@@ -4,3 +4,4 @@ pub mod Passing
 pub mod Refusals
 pub mod Rows
 pub mod SenderLine
+pub mod ReceiverWords
