@@ -4,7 +4,7 @@ use mathlib.Core.List.{List, [], _∷_, _++_, append-assoc}
 use Prim.Native.Nat.{ℕ, zero, suc, _+_, _*_, _<_, _≤_}
 use native.Mathlib.Nat.{zero-add, zero-mul, suc-add, suc-mul}
 use native.Mathlib.Omega.{arith}
-use lib.ListN.{length, getD, take, drop}
+use lib.ListN.{length, getD, drop}
 use Rattle.std.proofs.shelf.Lists.{drop-append-le, getD-append-add, getD-append-left, getD-drop, getD-take, length-append, length-drop, length-take-le, nil-from-length, take-append-le}
 use Rattle.delay.specs.Runs.{Blocks, element}
 use Rattle.runs.specs.Blocks.{cut, joined}

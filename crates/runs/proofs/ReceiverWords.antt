@@ -3,13 +3,13 @@ use mathlib.Core.Path.{_≡_, refl, sym, ap, ap₂, subst, _∙_}
 use mathlib.Core.Logic.{_⊎_, inl, inr}
 use mathlib.Core.List.{List, [], _∷_, _++_}
 use Prim.Native.Nat.{ℕ, zero, suc, _+_, _-_, _*_, _/_, _%_, _<_, _≤_}
-use native.Mathlib.Nat.{add-mul, mod-lt, mul-add, mul-comm, mul-le-mul-left, mul-le-mul-right, mul-sub, suc-mul, zero-mul}
+use native.Mathlib.Nat.{add-mul, mod-lt, mul-comm, mul-le-mul-right, mul-sub, suc-mul, zero-mul}
 use native.Mathlib.Omega.{arith}
 use lib.Arith.{digits-lt}
 use lib.Dec.{eqb, ltb}
 use lib.ListN.{length, getD, take, drop, replicate}
 use lib.Seq.{drop-append-add, drop-nil, take-append-add}
-use Rattle.std.proofs.shelf.Lists.{drop-all, drop-append-le, getD-append-left, getD-drop, getD-push, getD-take, length-append, length-drop, length-push, length-take-le, nil-from-length, take-append-le, take-replicate}
+use Rattle.std.proofs.shelf.Lists.{drop-all, drop-append-le, getD-append-left, getD-drop, getD-push, getD-take, length-append, length-drop, length-push, length-take-le, take-append-le, take-replicate}
 use Rattle.std.proofs.shelf.Tests.{and-parts, cases-lt, eqb-true}
 use Rattle.places.specs.Line.{Plan, place}
 use Rattle.places.proofs.Places.{part-lt}
@@ -17,14 +17,14 @@ use Rattle.coder.specs.declared.arrival.Arrival.{Arrival}
 use Rattle.coder.specs.declared.arrival.Arrival.the-variants.{Octet, Lost}
 use Rattle.coder.specs.Codes.{Code}
 use Rattle.delay.specs.declared.triangle.Triangle.{Triangle}
-use Rattle.delay.specs.Triangles.{falling, memoryOf, queue, waitOf}
+use Rattle.delay.specs.Triangles.{falling, waitOf}
 use Rattle.delay.proofs.Delays.{waits}
 use Rattle.runs.specs.Senders.{frameFits, lineFits, mostWords}
 use Rattle.runs.specs.Receivers.{Answer, coder-loss, Delays, Filled, Filling, Gives, Received, Running, completed, delayed, gathered, kept, receiversBank, started}
 use Rattle.runs.specs.Histories.{FillingRun, ReceiverRun, RunningRun, fills, filling, opens, receives, running, starts}
 use Rattle.runs.specs.Histories as histories
 use Rattle.runs.specs.Theorem.{AnswersRest, answerAt, arrivedAt}
-use Rattle.runs.proofs.Settled.{Fits, Settled}
+use Rattle.runs.proofs.Settled.{Settled}
 use Rattle.runs.proofs.Refusals.{test-passed}
 use Rattle.runs.proofs.Rows.{stream-place, words-blocks}
 use Rattle.runs.proofs.Passing.{Passed, cleared-memory, length-out, none-passed, out-then, pass-on}

@@ -1,42 +1,30 @@
 -- The line of a sender's run. Assumes nothing.
 use mathlib.Core.Path.{_≡_, refl, sym, ap, ap₂, subst, _∙_}
-use mathlib.Core.Bool.{Bool}
 use mathlib.Core.Logic.{_⊎_, inl, inr}
 use mathlib.Core.List.{List, [], _∷_, _++_}
 use Prim.{⊥}
-use Prim.Native.Nat.{ℕ, zero, suc, _+_, _-_, _*_, _/_, _%_, _<_, _≤_}
+use Prim.Native.Nat.{ℕ, suc, _+_, _-_, _*_, _/_, _%_, _<_, _≤_}
 use native.Mathlib.Nat.{div-add-mod', div-lt-iff-lt-mul, mod-lt, suc-mul, zero-mul}
 use native.Mathlib.Omega.{arith}
 use lib.Arith.{digits-div, digits-lt, digits-mod}
 use lib.Dec.{eqb, ltb}
 use lib.ListN.{length, getD, replicate}
-use Rattle.std.specs.shelf.Lists.{All}
-use Rattle.std.proofs.shelf.Elements.{all-getD}
-use Rattle.std.proofs.shelf.Lists.{getD-append-add, getD-append-left, getD-append-right, getD-past, getD-push, getD-replicate, length-append, length-push, length-replicate}
+use Rattle.std.proofs.shelf.Lists.{getD-append-add, getD-append-left, getD-append-right, getD-past, getD-replicate, length-append, length-push, length-replicate}
 use Rattle.std.proofs.shelf.Tests.{and-parts, cases-lt, eqb-true}
 use Rattle.places.specs.Line.{Plan, place}
-use Rattle.coder.specs.Codes.{Code, Octets}
+use Rattle.coder.specs.Codes.{Code}
 use Rattle.scrambler.specs.Scrambler.{scrambled, after}
-use Rattle.scrambler.proofs.Scrambling.{length-scrambled, scrambled-octets}
 use Rattle.delay.specs.declared.triangle.Triangle.{Triangle}
 use Rattle.delay.specs.Triangles.{memoryOf, queue, rising, waitOf}
-use Rattle.runs.specs.Senders.{Draining, Drained, Interleaves, Sending, Sent, drainAnswer, ended, frameFits, mostWords, sendAnswer, sendersBank, unless}
+use Rattle.runs.specs.Senders.{Draining, Interleaves, Sending, Sent, frameFits, mostWords, sendersBank}
 use Rattle.runs.specs.Histories.{DrainingRun, SenderRun, SendingRun, draining, drains, ends, opens, sending, sends}
 use Rattle.runs.specs.Histories as histories
-use Rattle.runs.specs.Theorem.{LineHolds, earlierAt, frameAt, sentAt, wordAt}
+use Rattle.runs.specs.Theorem.{LineHolds, earlierAt, sentAt, wordAt}
 use Rattle.runs.proofs.Settled.{Fits, Settled}
 use Rattle.runs.proofs.Refusals.{test-passed}
 use Rattle.runs.proofs.Rows.{row-below, some-word, stream-place, words-blocks}
+use Rattle.runs.proofs.Words.{last-earlier, last-word, length-word, word-same}
 use Rattle.runs.proofs.Passing.{Passed, cleared-memory, length-out, none-passed, out-first, out-then, pass-on}
-
--- ---- the words of frames
-
-octets-at : (xs : List ℕ) → All (λ m. m < 256) xs → Octets xs
-octets-at xs h k = go (cases-lt k (length xs))
-  where
-    go : (k < length xs) ⊎ (length xs ≤ k) → getD xs k 0 < 256
-    go (inl l) = all-getD (λ m. m < 256) xs k 0 l h
-    go (inr l) = rw (getD-past xs k 0 l) (omega arith)
 
 zeros-at : (n k : ℕ) → let none : ℕ = 0 in getD (replicate n none) k none ≡ none
 zeros-at n k = go (cases-lt k n)
@@ -47,42 +35,6 @@ zeros-at n k = go (cases-lt k n)
     go : (k < n) ⊎ (n ≤ k) → getD (replicate n none) k none ≡ none
     go (inl l) = getD-replicate n k none none l
     go (inr l) = getD-past (replicate n none) k none (omega (arith, length-replicate n none))
-
--- the word of an accepted frame, whatever the earlier bits
-pub length-word : {p : Plan} {c : Code} → Fits p c → (earlier : List Bool) (frame : List ℕ) → length frame ≡ p .frame
-    → length (c .wordOf (scrambled earlier frame)) ≡ p .word
-length-word fits earlier frame whole =
-    fits .sound .word-long (scrambled earlier frame) (record {
-      long = length-scrambled earlier frame ∙ whole ∙ sym (fits .frame);
-      octets = octets-at (scrambled earlier frame) (scrambled-octets earlier frame);
-    })
-    ∙ fits .word
-
--- frames sent later change nothing of earlier ones
-pub earlier-same : (frames more : List (List ℕ)) (n : ℕ) → n ≤ length frames → earlierAt (frames ++ more) n ≡ earlierAt frames n
-unfolding earlierAt
-earlier-same frames more zero h = refl
-earlier-same frames more (suc n) h =
-    ap₂ (λ e f. after e (scrambled e f)) (earlier-same frames more n (omega arith)) (getD-append-left frames more [] n (omega arith))
-
-pub word-same : (c : Code) (frames more : List (List ℕ)) (n : ℕ) → n < length frames → wordAt c (frames ++ more) n ≡ wordAt c frames n
-word-same c frames more n h =
-    ap₂ (λ e f. c .wordOf (scrambled e f)) (earlier-same frames more n (omega arith)) (getD-append-left frames more [] n h)
-
--- the frame sent last
-last-frame : (frames : List (List ℕ)) (frame : List ℕ) → frameAt (frames ++ frame ∷ []) (length frames) ≡ frame
-last-frame frames frame = getD-push frames frame [] (length frames) refl
-
-pub last-word : (c : Code) (frames : List (List ℕ)) (frame : List ℕ)
-    → wordAt c (frames ++ frame ∷ []) (length frames) ≡ c .wordOf (scrambled (earlierAt frames (length frames)) frame)
-last-word c frames frame =
-    ap₂ (λ e f. c .wordOf (scrambled e f)) (earlier-same frames (frame ∷ []) (length frames) (omega arith)) (last-frame frames frame)
-
-last-earlier : (frames : List (List ℕ)) (frame : List ℕ) → let e = earlierAt frames (length frames) in
-    earlierAt (frames ++ frame ∷ []) (suc (length frames)) ≡ after e (scrambled e frame)
-unfolding earlierAt
-last-earlier frames frame =
-    ap₂ (λ e f. after e (scrambled e f)) (earlier-same frames (frame ∷ []) (length frames) (omega arith)) (last-frame frames frame)
 
 -- ---- what a sender has put on the line
 
