@@ -1,4 +1,11 @@
 pub mod Settled
+pub mod Blocks
+pub mod Passing
+pub mod Refusals
+pub mod Rows
+pub mod Words
+pub mod SenderLine
+pub mod ReceiverWords
 pub mod Differences
 pub mod Counts
 pub mod Received
