@@ -11,13 +11,14 @@ use Rattle.places.specs.Limit.{BurstLimit}
 use Rattle.coder.specs.declared.arrival.Arrival.{Arrival}
 use Rattle.coder.specs.Arrivals.{valueOf}
 use Rattle.coder.specs.Codes.{Code}
+use Rattle.coder.proofs.Distances.{within-same}
 use Rattle.scrambler.specs.Scrambler.{after, descrambled, scrambled}
 use Rattle.scrambler.proofs.Scrambling.{undo}
 use Rattle.runs.specs.Receivers.{Answer}
 use Rattle.runs.specs.Histories.{ReceiverRun, SenderRun}
 use Rattle.runs.specs.Theorem.{AnswersRest, LineHolds, ToldApart, earlierAt, frameAt}
 use Rattle.runs.proofs.Settled.{Fits, Settled}
-use Rattle.runs.proofs.Differences.{octets-all, one-near}
+use Rattle.runs.proofs.Differences.{octets-all}
 use Rattle.runs.proofs.Counts.{all-answered, as-many, sender-of}
 use Rattle.runs.proofs.Received.{Carries, Close, Gathered, gathered-by, long-values, sent-message}
 use Rattle.runs.proofs.Arriving.{carried, close-by}
@@ -33,7 +34,7 @@ module _ {p : Plan} {c : Code} (fits : Fits p c) where
     one-message : (n : ℕ) → n < length frames
         → scrambled (earlierAt frames n) (frameAt frames n) ≡ scrambled (earlierAt frames′ n) (frameAt frames′ n)
     one-message n h =
-        one-near c (fits .sound) (map valueOf (word n)) _ _ (long-values fits (got n h))
+        within-same c (fits .sound) (map valueOf (word n)) _ _ (long-values fits (got n h))
         (sent-message fits carries n h) (sent-message fits carries′ n (omega arith)) (close n h) (close′ n h)
 
     same-earlier : (n : ℕ) → n ≤ length frames → earlierAt frames n ≡ earlierAt frames′ n

@@ -19,7 +19,8 @@ use Rattle.runs.specs.Receivers.{Answer}
 use Rattle.runs.specs.Histories.{ReceiverRun, SenderRun}
 use Rattle.runs.specs.Theorem.{AnswersRest, BurstRule, FramesArrive, LineHolds, Spoilt, arrivedAt, sentAt}
 use Rattle.runs.proofs.Settled.{Fits, Settled}
-use Rattle.runs.proofs.Counts.{answered-sent, sent-so-far, some-word}
+use Rattle.runs.proofs.Rows.{some-word}
+use Rattle.runs.proofs.Counts.{answered-sent, sent-so-far}
 use Rattle.runs.proofs.Received.{Carries, Close, Gathered, gathered-by, handed-out, spoilt-few}
 
 -- an arrival is a given octet, or it is not
@@ -40,7 +41,7 @@ module _ {p : Plan} {c : Code} (settled : Settled p) (fits : Fits p c) where
   -- the arrivals of a gathered word were met to the end of its reach
   reach-met : {arrivals : List Arrival} {n : ℕ} {word : List Arrival} → Gathered p arrivals n word → n * p .word + p .reach ≤ length arrivals
   reach-met {n = n} got =
-      let last = got .met (p .word - 1) (omega (arith, some-word settled fits)) in
+      let last = got .met (p .word - 1) (omega (arith, some-word settled)) in
       omega (arith, last, lies (settled .laid) (settled .some-parts) .last n)
 
   -- Under the burst rule a word gathered is within t places of the word sent.

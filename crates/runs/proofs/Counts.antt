@@ -34,46 +34,17 @@ use Rattle.runs.specs.Histories.{
 }
 use Rattle.runs.specs.Theorem.{FinishedRun, Run, frameAt}
 use Rattle.runs.proofs.Settled.{Fits, Settled}
-use Rattle.runs.proofs.Differences.{octets-at}
+use Rattle.runs.proofs.Blocks.{blocks-cut, length-cut, length-joined}
+use Rattle.runs.proofs.Refusals.{test-passed}
+use Rattle.runs.proofs.Rows.{some-word}
+use Rattle.runs.proofs.Words.{length-word, octets-at}
 
--- ---- an accepted call passed each of its tests
-
-abbrev taken : Result (Unit {0}) ℕ → Bool
-taken (Ok u) = true
-taken (Err number) = false
-
-pub passed : (test : Bool) (number : ℕ) (others : Result (Unit {0}) ℕ) → unless test number others ≡ Ok tt
-    → (test ≡ true) × (others ≡ Ok tt)
-passed true number others ok = (refl, ok)
-passed false number others ok = absurd (true≢false (sym (ap taken ok)))
-
--- ---- blocks through a delay line
-
-module _ {E : Type 0} where
-  pub length-cut : (I q : ℕ) (xs : List E) → length (cut I q xs) ≡ q
-  unfolding cut
-  length-cut I zero xs = refl
-  length-cut I (suc q) xs = ap suc (length-cut I q (drop I xs))
-
-  pub blocks-cut : (I q : ℕ) (xs : List E) → q * I ≤ length xs → Blocks I (cut I q xs)
-  unfolding cut
-  blocks-cut I zero xs h = tt
-  blocks-cut I (suc q) xs h = (
-    length-take-le I xs (omega (arith, suc-mul q I)),
-    blocks-cut I q (drop I xs) (omega (arith, suc-mul q I, length-drop I xs)),
-  )
-
-  pub length-joined : (I : ℕ) (bs : List (List E)) → Blocks I bs → length (joined bs) ≡ length bs * I
-  unfolding joined
-  length-joined I [] h = sym (zero-mul I)
-  length-joined I (b ∷ bs) h =
-      omega (arith, length-append b (joined bs), h .0, length-joined I bs (h .1), suc-mul (length bs) I)
-
-  pub length-through : (I q : ℕ) (bank : Bank E) (entering : List E) → q * I ≤ length entering → length (through I q bank entering) ≡ q * I
-  length-through I q bank entering h =
-      let blocks = cut I q entering in
-      length-joined I (outs bank blocks) (blocks-outs I bank blocks (blocks-cut I q entering h))
-      ∙ ap (λ (n : ℕ). n * I) (length-outs bank blocks ∙ length-cut I q entering)
+-- what leaves a delay line is as long as what entered
+length-through : {E : Type 0} (I q : ℕ) (bank : Bank E) (entering : List E) → q * I ≤ length entering → length (through I q bank entering) ≡ q * I
+length-through I q bank entering h =
+    let blocks = cut I q entering in
+    length-joined I (outs bank blocks) (blocks-outs I bank blocks (blocks-cut I q entering h))
+    ∙ ap (λ (n : ℕ). n * I) (length-outs bank blocks ∙ length-cut I q entering)
 
 -- a call more is a word more
 word-more : (now more later words words′ N : ℕ) → later ≡ now + more → now ≡ words * N → more ≡ N → words′ ≡ suc words → later ≡ words′ * N
@@ -100,18 +71,12 @@ pub sender-of : {p : Plan} {c : Code} {frames : List (List ℕ)} {line : List �
 sender-of closed = SenderRun.draining (closed .state) (closed .memory) (closed .run)
 
 module _ {p : Plan} {c : Code} (settled : Settled p) (fits : Fits p c) where
-  pub some-word : 0 < p .word
-  some-word = let product : 0 < p .parts * p .block = mul-pos (settled .some-parts) (settled .laid .some) in omega (arith, settled .laid .whole)
-
   -- a frame that was accepted
   frame-long : (s : Sending) (memory frame before : List ℕ) → sendAnswer p c s memory frame before ≡ Ok tt → length frame ≡ p .frame
   frame-long s memory frame before ok =
-      let later = passed (ltb (s .words) mostWords) 10 _ ok .1 in
-      let fit = passed (frameFits p c frame) 5 _ later .0 in
+      let later = test-passed (ltb (s .words) mostWords) 10 _ ok .1 in
+      let fit = test-passed (frameFits p c frame) 5 _ later .0 in
       eqb-true (length frame) (p .frame) (and-parts _ _ fit .0)
-
-  word-long : (m : List ℕ) → Message c m → p .parts * p .block ≤ length (c .wordOf m)
-  word-long m of-m = omega (arith, fits .sound .word-long m of-m, fits .word, settled .laid .whole)
 
   -- N line octets leave the interleaver with each call
   one-word : (bank : Bank ℕ) (entering line : List ℕ) → p .parts * p .block ≤ length entering
@@ -129,9 +94,12 @@ module _ {p : Plan} {c : Code} (settled : Settled p) (fits : Fits p c) where
   so-far-sending (SendingRun.sends {frames} {line} {s} {memory} frame before after run ok sent) =
       go (so-far-sending run)
     where
+      whole : length frame ≡ p .frame
+      whole = frame-long s memory frame before ok
+
       of-frame : Message c frame
       of-frame = record {
-        long = frame-long s memory frame before ok ∙ sym (fits .frame);
+        long = whole ∙ sym (fits .frame);
         octets = sent .octets;
       }
 
@@ -145,7 +113,7 @@ module _ {p : Plan} {c : Code} (settled : Settled p) (fits : Fits p c) where
       go : SoFar p c frames line 0 → SoFar p c (frames ++ frame ∷ []) (line ++ after) 0
       go before =
           let one : length after ≡ p .word
-          = one-word _ _ after (word-long _ (scrambled-message (s .earlier) frame of-frame)) (sent .interleaves .line-octets) in record {
+          = one-word _ _ after (omega (arith, length-word fits (s .earlier) frame whole, settled .laid .whole)) (sent .interleaves .line-octets) in record {
             messages = λ n h. last n (cases-lt n (length frames)) h before;
             long = word-more _ _ _ _ _ (p .word) (length-append line after) (before .long) one (omega (arith, length-push frames frame));
           }
@@ -158,7 +126,7 @@ module _ {p : Plan} {c : Code} (settled : Settled p) (fits : Fits p c) where
     where
       go : SoFar p c frames line (s .drained) × (s .drained ≤ p .lag) → SoFar p c frames (line ++ after) (s′ .drained) × (s′ .drained ≤ p .lag)
       go earlier =
-          let room : s .drained < p .lag = ltb-true (s .drained) (p .lag) (passed (ltb (s .drained) (p .lag)) 11 _ ok .0) in
+          let room : s .drained < p .lag = ltb-true (s .drained) (p .lag) (test-passed (ltb (s .drained) (p .lag)) 11 _ ok .0) in
           let zeros : length (replicate {A = ℕ} (p .word) 0) ≡ p .word = length-replicate (p .word) 0 in
           let one : length after ≡ p .word
           = one-word _ _ after (omega (arith, zeros, settled .laid .whole)) (drained .interleaves .line-octets) in (
@@ -178,7 +146,7 @@ module _ {p : Plan} {c : Code} (settled : Settled p) (fits : Fits p c) where
 
   pub closed-so-far : {frames : List (List ℕ)} {line : List ℕ} → ClosedRun p c frames line → SoFar p c frames line (p .lag)
   closed-so-far closed =
-      let all : closed .state .drained ≡ p .lag = eqb-true (closed .state .drained) (p .lag) (passed (eqb (closed .state .drained) (p .lag)) 11 _ (closed .close) .0) in
+      let all : closed .state .drained ≡ p .lag = eqb-true (closed .state .drained) (p .lag) (test-passed (eqb (closed .state .drained) (p .lag)) 11 _ (closed .close) .0) in
       rw all at (so-far-draining (closed .run) .0)
 
   -- ---- the receiver
@@ -190,16 +158,16 @@ module _ {p : Plan} {c : Code} (settled : Settled p) (fits : Fits p c) where
     where
       go : (length arrivals ≡ s .filled * p .word) × (s .filled ≤ p .lag) → (length (arrivals ++ line) ≡ s′ .filled * p .word) × (s′ .filled ≤ p .lag)
       go before =
-          let first = passed (ltb (s .filled) (p .lag)) 11 _ ok in
+          let first = test-passed (ltb (s .filled) (p .lag)) 11 _ ok in
           let room : s .filled < p .lag = ltb-true (s .filled) (p .lag) (first .0) in
-          let one : length line ≡ p .word = eqb-true (length line) (p .word) (passed (eqb (length line) (p .word)) 6 _ (first .1) .0) in
+          let one : length line ≡ p .word = eqb-true (length line) (p .word) (test-passed (eqb (length line) (p .word)) 6 _ (first .1) .0) in
           (word-more _ _ _ _ _ (p .word) (length-append arrivals line) (before .0) one (filled .filled), omega (arith, filled .filled))
   so-far-filling (FillingRun.refuses run) = so-far-filling run
 
   so-far-running : {arrivals : List Arrival} {answers : List Answer} {s : Running} {memory : List Arrival}
       → RunningRun p c arrivals answers s memory → length arrivals ≡ (p .lag + length answers) * p .word
   so-far-running (RunningRun.starts {s} run ok) =
-      let all : s .filled ≡ p .lag = eqb-true (s .filled) (p .lag) (passed (eqb (s .filled) (p .lag)) 11 _ ok .0) in
+      let all : s .filled ≡ p .lag = eqb-true (s .filled) (p .lag) (test-passed (eqb (s .filled) (p .lag)) 11 _ ok .0) in
       let sum : s .filled ≡ p .lag + 0 = omega arith in
       so-far-filling run .0 ∙ ap (λ (n : ℕ). n * p .word) sum
   so-far-running (RunningRun.receives {arrivals} {answers} {s} {s′} {memory} line before answer run ok received) =
@@ -207,9 +175,9 @@ module _ {p : Plan} {c : Code} (settled : Settled p) (fits : Fits p c) where
     where
       one : length line ≡ p .word
       one =
-          let first = passed (ltb (s .words) mostWords) 10 _ ok in
-          let second = passed (frameFits p c before) 5 _ (first .1) in
-          eqb-true (length line) (p .word) (and-parts _ _ (passed (lineFits p c line) 6 _ (second .1) .0) .0)
+          let first = test-passed (ltb (s .words) mostWords) 10 _ ok in
+          let second = test-passed (frameFits p c before) 5 _ (first .1) in
+          eqb-true (length line) (p .word) (and-parts _ _ (test-passed (lineFits p c line) 6 _ (second .1) .0) .0)
   so-far-running (RunningRun.refuses run) = so-far-running run
 
   -- at most w fills come before the receives, and just w before the first
@@ -234,7 +202,7 @@ module _ {p : Plan} {c : Code} (settled : Settled p) (fits : Fits p c) where
       go sent met (inl some) =
           let products : (met .0 + length answers) * p .word ≤ (length frames + sent .0) * p .word
           = omega (arith, sent .2 .long, met .2, run .met) in
-          let words : met .0 + length answers ≤ length frames + sent .0 = le-of-mul-le-mul-right products some-word in
+          let words : met .0 + length answers ≤ length frames + sent .0 = le-of-mul-le-mul-right products (some-word settled) in
           omega (arith, met .3 some, sent .1)
       go sent met (inr none) = omega arith
 
@@ -246,7 +214,7 @@ module _ {p : Plan} {c : Code} (settled : Settled p) (fits : Fits p c) where
       let met = met-so-far (run .receiver) in
       let products : (length frames + p .lag) * p .word ≡ (met .0 + length answers) * p .word = sym (sent .long) ∙ sym (run .met) ∙ met .2 in
       let words : length frames + p .lag ≡ met .0 + length answers
-      = eq-of-mul-eq-mul-right (p .word) some-word (length frames + p .lag) (met .0 + length answers) products in
+      = eq-of-mul-eq-mul-right (p .word) (some-word settled) (length frames + p .lag) (met .0 + length answers) products in
       omega (arith, words, met .1)
 
   -- finished runs with as many arrivals have as many frames
@@ -256,5 +224,5 @@ module _ {p : Plan} {c : Code} (settled : Settled p) (fits : Fits p c) where
       let products : (length frames + p .lag) * p .word ≡ (length frames′ + p .lag) * p .word
       = sym (closed-so-far (run .sender) .long) ∙ sym (run .met) ∙ run′ .met ∙ closed-so-far (run′ .sender) .long in
       let words : length frames + p .lag ≡ length frames′ + p .lag
-      = eq-of-mul-eq-mul-right (p .word) some-word (length frames + p .lag) (length frames′ + p .lag) products in
+      = eq-of-mul-eq-mul-right (p .word) (some-word settled) (length frames + p .lag) (length frames′ + p .lag) products in
       omega (arith, words)

@@ -1,4 +1,4 @@
--- Received words: how far they are from the word sent, and which message is near them. Assumes nothing.
+-- Where two words differ, and in how many places. Assumes nothing.
 use mathlib.Core.Path.{_≡_, refl, sym, ap, ap₂, _∙_}
 use mathlib.Core.Bool.{Bool, true, false, cond, not}
 use mathlib.Core.List.{List, [], _∷_}
@@ -16,52 +16,9 @@ use Rattle.places.proofs.Tallies.{tally-more}
 use Rattle.coder.specs.Codes.{Code, Message, Octets, Sound, distance}
 use Rattle.scrambler.specs.Bits as bits
 
--- ---- octets, said in two ways
-
-pub octets-at : (xs : List ℕ) → bits.Octets xs → Octets xs
-octets-at xs all k = go (cases-lt k (length xs))
-  where
-    go : (k < length xs) ⊎ (length xs ≤ k) → getD xs k 0 < 256
-    go (inl inside) = all-getD (λ m. m < 256) xs k 0 inside all
-    go (inr past) = let none : getD xs k 0 ≡ 0 = getD-past xs k 0 past in omega (arith, none)
-
+-- octets, said for all elements
 pub octets-all : (xs : List ℕ) → Octets xs → bits.Octets xs
 octets-all xs each = all-from-getD (λ m. m < 256) xs 0 (λ k _. each k)
-
--- ---- two messages are not near one word
-
-one-place : (x y z : ℕ) → cond (eqb x z) 0 1 ≤ cond (eqb x y) 0 1 + cond (eqb z y) 0 1
-one-place x y z = grind (arith, tells)
-
--- two words are at most as far from each other as both together from a third one
-pub by-third : (a b r : List ℕ) → length a ≡ length r → length b ≡ length r → distance a b ≤ distance a r + distance b r
-unfolding distance
-by-third [] b r la lb = omega arith
-by-third (x ∷ a) [] r la lb = omega arith
-by-third (x ∷ a) (z ∷ b) [] la lb = absurd (omega arith)
-by-third (x ∷ a) (z ∷ b) (y ∷ r) la lb = omega (arith, one-place x y z, by-third a b r (omega arith) (omega arith))
-
-same-or-not : (a b : List ℕ) → (a ≡ b) ⊎ (a ≢ b)
-same-or-not [] [] = inl refl
-same-or-not [] (y ∷ b) = inr (λ e. absurd (omega (arith, ap length e)))
-same-or-not (x ∷ a) [] = inr (λ e. absurd (omega (arith, ap length e)))
-same-or-not (x ∷ a) (y ∷ b) = go (cases-eq x y) (same-or-not a b)
-  where
-    go : (x ≡ y) ⊎ (x ≡ y → ⊥) → (a ≡ b) ⊎ (a ≢ b) → (x ∷ a ≡ y ∷ b) ⊎ (x ∷ a ≢ y ∷ b)
-    go (inl p) (inl q) = inl (ap₂ _∷_ p q)
-    go (inl p) (inr q) = inr (λ e. q cc)
-    go (inr p) q = inr (λ e. p cc)
-
--- No two messages have words within t places of one received word.
-pub one-near : (c : Code) → Sound c → (received a b : List ℕ) → length received ≡ c .sizes .word → Message c a → Message c b
-    → distance (c .wordOf a) received ≤ c .sizes .repairs → distance (c .wordOf b) received ≤ c .sizes .repairs → a ≡ b
-one-near c sound received a b long of-a of-b near-a near-b = go (same-or-not a b)
-  where
-    go : (a ≡ b) ⊎ (a ≢ b) → a ≡ b
-    go (inl same) = same
-    go (inr other) =
-        let third = by-third (c .wordOf a) (c .wordOf b) received (sound .word-long a of-a ∙ sym long) (sound .word-long b of-b ∙ sym long) in
-        absurd (omega (arith, third, sound .apart a b of-a of-b other))
 
 -- ---- the distance counts the places that differ
 

@@ -13,12 +13,13 @@ use Rattle.coder.specs.declared.arrival.Arrival.{Arrival}
 use Rattle.coder.specs.declared.arrival.Arrival.the-variants.{Octet, Lost}
 use Rattle.coder.specs.Arrivals.{valueOf}
 use Rattle.coder.specs.Codes.{Code, Message, Near, distance}
+use Rattle.coder.proofs.Distances.{within-same}
 use Rattle.scrambler.specs.Scrambler.{after, descrambled, scrambled}
 use Rattle.scrambler.proofs.Scrambling.{undo}
 use Rattle.runs.specs.Receivers.{Answer, Gives, Running, coder-loss, delivered, scrambler-loss}
 use Rattle.runs.specs.Theorem.{AnswersRest, LineHolds, answerAt, arrivedAt, earlierAt, frameAt, sentAt, wordAt}
 use Rattle.runs.proofs.Settled.{Fits}
-use Rattle.runs.proofs.Differences.{few-differ, many-differ, octets-all, one-near}
+use Rattle.runs.proofs.Differences.{few-differ, many-differ, octets-all}
 use Rattle.runs.proofs.Counts.{scrambled-message}
 
 -- what is known of the frames sent and of the line, as far as it was met
@@ -95,7 +96,7 @@ module _ {p : Plan} {c : Code} (fits : Fits p c) where
       let m = gives .0 in
       let near : Near c (map valueOf word) m repaired = gives .1 in
       let found : m ≡ sent
-      = one-near c (fits .sound) (map valueOf word) m sent long (near .message) (scrambled-message earlier frame of-frame)
+      = within-same c (fits .sound) (map valueOf word) m sent long (near .message) (scrambled-message earlier frame of-frame)
       (omega (arith, near .differing, near .within)) close in
       let back : handed ≡ frame = gives .2 ∙ ap₂ descrambled same found ∙ undo earlier frame (octets-all frame (of-frame .octets)) in
       ((repaired, ap (delivered repaired) back), gives .4, gives .5 ∙ ap₂ after same found)
