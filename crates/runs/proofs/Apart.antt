@@ -14,11 +14,10 @@ use Rattle.coder.specs.Codes.{Code}
 use Rattle.coder.proofs.Distances.{within-same}
 use Rattle.scrambler.specs.Scrambler.{after, descrambled, scrambled}
 use Rattle.scrambler.proofs.Scrambling.{undo}
-use Rattle.runs.specs.Receivers.{Answer}
-use Rattle.runs.specs.Histories.{ReceiverRun, SenderRun}
-use Rattle.runs.specs.Theorem.{AnswersRest, LineHolds, ToldApart, earlierAt, frameAt}
+use Rattle.runs.specs.Theorem.{ToldApart, earlierAt, frameAt}
 use Rattle.runs.proofs.Settled.{Fits, Settled}
 use Rattle.runs.proofs.Differences.{octets-all}
+use Rattle.runs.proofs.ReceiverWords.{answers-rest}
 use Rattle.runs.proofs.Counts.{all-answered, as-many, sender-of}
 use Rattle.runs.proofs.Received.{Carries, Close, Gathered, gathered-by, long-values, sent-message}
 use Rattle.runs.proofs.Arriving.{carried, close-by}
@@ -55,14 +54,12 @@ module _ {p : Plan} {c : Code} (fits : Fits p c) where
         same-lists frames frames′ as-long
         (λ n d h. getD-default frames n d [] h ∙ same-frame n h ∙ getD-default frames′ n [] d (omega arith))
 
-module _ {p : Plan} {c : Code} (settled : Settled p) (fits : Fits p c)
-    (line-holds : (frames : List (List ℕ)) (line : List ℕ) → SenderRun p c frames line → LineHolds p c frames line)
-    (answers-rest : (arrivals : List Arrival) (answers : List Answer) → ReceiverRun p c arrivals answers → AnswersRest p c arrivals answers) where
+module _ {p : Plan} {c : Code} (settled : Settled p) (fits : Fits p c) where
   pub told-apart : (B : ℕ) → BurstLimit p B → ToldApart p c B
   told-apart B limit frames frames′ line line′ arrivals answers answers′ run rule run′ rule′ =
-      let carries = carried settled fits line-holds (sender-of (run .sender)) (le-of-eq (run .met)) in
-      let carries′ = carried settled fits line-holds (sender-of (run′ .sender)) (le-of-eq (run′ .met)) in
-      let rest = answers-rest arrivals answers (run .receiver) in
+      let carries = carried settled fits (sender-of (run .sender)) (le-of-eq (run .met)) in
+      let carries′ = carried settled fits (sender-of (run′ .sender)) (le-of-eq (run′ .met)) in
+      let rest = answers-rest settled arrivals answers (run .receiver) in
       let all = all-answered settled fits run in
       let as-long = as-many settled fits run run′ in
       same-frames fits carries carries′ as-long (rest .word) (λ n h. gathered-by rest n (omega (arith, all)))

@@ -15,11 +15,12 @@ use Rattle.coder.specs.declared.arrival.Arrival.{Arrival}
 use Rattle.coder.specs.declared.arrival.Arrival.the-variants.{Octet, Lost}
 use Rattle.coder.specs.Arrivals.{valueOf}
 use Rattle.coder.specs.Codes.{Code}
-use Rattle.runs.specs.Receivers.{Answer}
-use Rattle.runs.specs.Histories.{ReceiverRun, SenderRun}
-use Rattle.runs.specs.Theorem.{AnswersRest, BurstRule, FramesArrive, LineHolds, Spoilt, arrivedAt, sentAt}
+use Rattle.runs.specs.Histories.{SenderRun}
+use Rattle.runs.specs.Theorem.{BurstRule, FramesArrive, Spoilt, arrivedAt, sentAt}
 use Rattle.runs.proofs.Settled.{Fits, Settled}
 use Rattle.runs.proofs.Rows.{some-word}
+use Rattle.runs.proofs.SenderLine.{line-holds}
+use Rattle.runs.proofs.ReceiverWords.{answers-rest}
 use Rattle.runs.proofs.Counts.{answered-sent, sent-so-far}
 use Rattle.runs.proofs.Received.{Carries, Close, Gathered, gathered-by, handed-out, spoilt-few}
 
@@ -72,22 +73,20 @@ module _ {p : Plan} {c : Code} (settled : Settled p) (fits : Fits p c) where
               let inside = burst .1 (place p n k) (between .0) (between .1) spoilt in
               absurd (true≢false (sym (within-from b B (place p n k) (inside .0) (inside .1)) ∙ outside))
 
-  module _ (line-holds : (frames : List (List ℕ)) (line : List ℕ) → SenderRun p c frames line → LineHolds p c frames line) where
-    pub carried : {frames : List (List ℕ)} {line : List ℕ} {arrivals : List Arrival} → SenderRun p c frames line → length arrivals ≤ length line
-        → Carries p c frames line arrivals
-    carried {frames} {line} sender met = record {
-      messages = sent-so-far settled fits sender .2 .messages;
-      holds = line-holds frames line sender;
-      met = met;
-    }
+  pub carried : {frames : List (List ℕ)} {line : List ℕ} {arrivals : List Arrival} → SenderRun p c frames line → length arrivals ≤ length line
+      → Carries p c frames line arrivals
+  carried {frames} {line} sender met = record {
+    messages = sent-so-far settled fits sender .2 .messages;
+    holds = line-holds settled fits frames line sender;
+    met = met;
+  }
 
-    module _ (answers-rest : (arrivals : List Arrival) (answers : List Answer) → ReceiverRun p c arrivals answers → AnswersRest p c arrivals answers) where
-      pub frames-arrive : (B : ℕ) → BurstLimit p B → FramesArrive p c B
-      frames-arrive B limit frames line arrivals answers run rule n h =
-          let carries = carried (run .sender) (run .met) in
-          let rest = answers-rest arrivals answers (run .receiver) in
-          let fewer = answered-sent settled fits run in (
-            omega (arith, fewer),
-            handed-out fits carries rest fewer n h
-                (λ m l. close-by carries B limit rule m (omega (arith, fewer)) (gathered-by rest m l)),
-          )
+  pub frames-arrive : (B : ℕ) → BurstLimit p B → FramesArrive p c B
+  frames-arrive B limit frames line arrivals answers run rule n h =
+      let carries = carried (run .sender) (run .met) in
+      let rest = answers-rest settled arrivals answers (run .receiver) in
+      let fewer = answered-sent settled fits run in (
+        omega (arith, fewer),
+        handed-out fits carries rest fewer n h
+            (λ m l. close-by carries B limit rule m (omega (arith, fewer)) (gathered-by rest m l)),
+      )

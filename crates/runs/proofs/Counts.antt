@@ -1,37 +1,28 @@
 -- How much a run has sent, met and answered. Assumes nothing.
 use mathlib.Core.Path.{_≡_, refl, sym, ap, _∙_}
-use mathlib.Core.Bool.{Bool, true, false}
+use mathlib.Core.Bool.{Bool}
 use mathlib.Core.List.{List, [], _∷_, _++_}
 use mathlib.Core.Logic.{_⊎_, inl, inr}
-use Prim.Native.Nat.{ℕ, zero, suc, _+_, _*_, _≤_, _<_}
-use native.Mathlib.Nat.{eq-of-mul-eq-mul-right, le-of-mul-le-mul-right, mul-pos, suc-mul, zero-mul}
+use Prim.Native.Nat.{ℕ, suc, _+_, _*_, _≤_, _<_}
+use native.Mathlib.Nat.{eq-of-mul-eq-mul-right, le-of-mul-le-mul-right, suc-mul, zero-mul}
 use native.Mathlib.Omega.{arith}
 use lib.Dec.{eqb, ltb}
-use lib.ListN.{length, drop, length-append, length-drop, length-replicate, replicate}
-use Rattle.std.proofs.shelf.Lists.{getD-append-left, getD-push, length-push, length-take-le}
-use Rattle.std.proofs.shelf.Tests.{and-parts, cases-lt, eqb-true, ltb-true, true≢false}
-use Rattle.std.specs.declared.result.Result.{Result}
-use Rattle.std.specs.declared.result.Result.the-variants.{Ok, Err}
+use lib.ListN.{length, length-append, length-replicate, replicate}
+use Rattle.std.proofs.shelf.Lists.{getD-append-left, getD-push, length-push}
+use Rattle.std.proofs.shelf.Tests.{and-parts, cases-lt, eqb-true, ltb-true}
+use Rattle.std.specs.declared.result.Result.the-variants.{Ok}
 use Rattle.places.specs.Line.{Plan}
 use Rattle.coder.specs.declared.arrival.Arrival.{Arrival}
 use Rattle.coder.specs.Codes.{Code, Message}
 use Rattle.scrambler.specs.Scrambler.{scrambled}
 use Rattle.scrambler.proofs.Scrambling.{length-scrambled, scrambled-octets}
 use Rattle.delay.specs.Queues.{Bank}
-use Rattle.delay.specs.Runs.{Blocks, outs}
+use Rattle.delay.specs.Runs.{outs}
 use Rattle.delay.proofs.Runs.{blocks-outs, length-outs}
-use Rattle.runs.specs.Blocks.{cut, joined, through}
-use Rattle.runs.specs.Senders.{Sending, Draining, frameFits, lineFits, mostWords, sendAnswer, unless}
+use Rattle.runs.specs.Blocks.{cut, through}
+use Rattle.runs.specs.Senders.{Sending, Draining, frameFits, lineFits, mostWords, sendAnswer}
 use Rattle.runs.specs.Receivers.{Answer, Filling, Running}
-use Rattle.runs.specs.Histories.{
-  SendingRun,
-  DrainingRun,
-  SenderRun,
-  ClosedRun,
-  FillingRun,
-  RunningRun,
-  ReceiverRun,
-}
+use Rattle.runs.specs.Histories.{SendingRun, DrainingRun, SenderRun, ClosedRun, FillingRun, RunningRun, ReceiverRun}
 use Rattle.runs.specs.Theorem.{FinishedRun, Run, frameAt}
 use Rattle.runs.proofs.Settled.{Fits, Settled}
 use Rattle.runs.proofs.Blocks.{blocks-cut, length-cut, length-joined}

@@ -1,5 +1,5 @@
 -- Where two words differ, and in how many places. Assumes nothing.
-use mathlib.Core.Path.{_≡_, refl, sym, ap, ap₂, _∙_}
+use mathlib.Core.Path.{_≡_, refl, sym, ap, _∙_}
 use mathlib.Core.Bool.{Bool, true, false, cond, not}
 use mathlib.Core.List.{List, [], _∷_}
 use mathlib.Core.Logic.{_⊎_, inl, inr, _≢_}
@@ -7,13 +7,11 @@ use Prim.Native.Nat.{ℕ, zero, suc, _+_, _≤_, _<_}
 use native.Mathlib.Omega.{arith}
 use lib.Dec.{eqb}
 use lib.ListN.{length, getD}
-use Rattle.std.proofs.shelf.Elements.{all-getD, all-from-getD}
-use Rattle.std.proofs.shelf.Lists.{getD-past}
-use Rattle.std.proofs.shelf.Tests.{cases-bool, cases-eq, cases-lt, eq-eqb, ne-eqb, true≢false}
-use Rattle.std.proofs.shelf.Ways.{tells}
+use Rattle.std.proofs.shelf.Elements.{all-from-getD}
+use Rattle.std.proofs.shelf.Tests.{cases-bool, eq-eqb, ne-eqb, true≢false}
 use Rattle.places.specs.Limit.{tally}
 use Rattle.places.proofs.Tallies.{tally-more}
-use Rattle.coder.specs.Codes.{Code, Message, Octets, Sound, distance}
+use Rattle.coder.specs.Codes.{Octets, distance}
 use Rattle.scrambler.specs.Bits as bits
 
 -- octets, said for all elements

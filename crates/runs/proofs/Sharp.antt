@@ -16,11 +16,11 @@ use Rattle.coder.specs.Arrivals.{valueOf}
 use Rattle.coder.specs.Codes.{Code, Message, Near, distance}
 use Rattle.scrambler.specs.Scrambler.{descrambled, scrambled}
 use Rattle.scrambler.proofs.Scrambling.{injective, undo}
-use Rattle.runs.specs.Receivers.{Answer, Gives, Running, delivered}
-use Rattle.runs.specs.Histories.{ReceiverRun, SenderRun}
-use Rattle.runs.specs.Theorem.{Altered, AnswersRest, LineHolds, SharpLimit, frameAt, wordAt}
+use Rattle.runs.specs.Receivers.{Gives, Running, delivered}
+use Rattle.runs.specs.Theorem.{Altered, SharpLimit, frameAt, wordAt}
 use Rattle.runs.proofs.Settled.{Fits, Settled}
 use Rattle.runs.proofs.Differences.{octets-all}
+use Rattle.runs.proofs.ReceiverWords.{answers-rest}
 use Rattle.runs.proofs.Counts.{answered-sent, scrambled-message}
 use Rattle.runs.proofs.Received.{Carries, Close, Gathered, agree, gathered-by, spoilt-few, spoilt-many}
 use Rattle.runs.proofs.Arriving.{carried}
@@ -72,23 +72,21 @@ module _ {p : Plan} {c : Code} (settled : Settled p) (fits : Fits p c) where
       let at-m : c .sizes .repairs < distance (c .wordOf m) (map valueOf word) = rw same far in
       absurd (omega (arith, at-m, near .differing, near .within))
 
-  module _ (line-holds : (frames : List (List ℕ)) (line : List ℕ) → SenderRun p c frames line → LineHolds p c frames line)
-      (answers-rest : (arrivals : List Arrival) (answers : List Answer) → ReceiverRun p c arrivals answers → AnswersRest p c arrivals answers) where
-    pub sharp-limit : (B : ℕ) → BurstLimit p B → SharpLimit p c B
-    sharp-limit B limit n =
-        let stretch = sharp (settled .laid) (p .repairs) B limit n in (
-          stretch .0,
-          stretch .1,
-          stretch .2,
-          λ frames line arrivals answers run sent answered altered repaired same.
-              let carries = carried settled fits line-holds (run .sender) (run .met) in
-              let rest = answers-rest arrivals answers (run .receiver) in
-              let fewer = answered-sent settled fits run in
-              let s = rest .state n in
-              let bits = agree fits carries rest fewer n (omega arith)
-              (λ m l. whole-before carries n (stretch .0) (B + 1) altered m l (omega arith) (gathered-by rest m (omega arith))) .1 in
-              let far = far-off carries n (stretch .0) (B + 1) altered (stretch .3) sent (gathered-by rest n answered) in
-              not-handed-out s (rest .state (suc n)) (frameAt frames n) (rest .word n) repaired (carries .messages n sent)
-              (subst (λ e. c .sizes .repairs < distance (c .wordOf (scrambled e (frameAt frames n))) (map valueOf (rest .word n))) (sym bits) far)
-              (subst (λ answer. Gives c s (rest .state (suc n)) (rest .word n) answer) same (rest .gives n answered)),
-        )
+  pub sharp-limit : (B : ℕ) → BurstLimit p B → SharpLimit p c B
+  sharp-limit B limit n =
+      let stretch = sharp (settled .laid) (p .repairs) B limit n in (
+        stretch .0,
+        stretch .1,
+        stretch .2,
+        λ frames line arrivals answers run sent answered altered repaired same.
+            let carries = carried settled fits (run .sender) (run .met) in
+            let rest = answers-rest settled arrivals answers (run .receiver) in
+            let fewer = answered-sent settled fits run in
+            let s = rest .state n in
+            let bits = agree fits carries rest fewer n (omega arith)
+            (λ m l. whole-before carries n (stretch .0) (B + 1) altered m l (omega arith) (gathered-by rest m (omega arith))) .1 in
+            let far = far-off carries n (stretch .0) (B + 1) altered (stretch .3) sent (gathered-by rest n answered) in
+            not-handed-out s (rest .state (suc n)) (frameAt frames n) (rest .word n) repaired (carries .messages n sent)
+            (subst (λ e. c .sizes .repairs < distance (c .wordOf (scrambled e (frameAt frames n))) (map valueOf (rest .word n))) (sym bits) far)
+            (subst (λ answer. Gives c s (rest .state (suc n)) (rest .word n) answer) same (rest .gives n answered)),
+      )
