@@ -1,0 +1,17 @@
+pub mod Generators
+pub mod Registers
+pub mod Words
+pub mod Sums
+pub mod Codes
+pub mod Nearness
+pub mod Samples
+pub mod Combining
+pub mod Clearing
+pub mod Elimination
+pub mod Filling
+pub mod Rooted
+pub mod Products
+pub mod Elsewhere
+pub mod Adding
+pub mod OneMore
+pub mod Repairs
