@@ -1,25 +1,16 @@
 -- A Reed-Solomon code over a field of 256 elements is a sound code of octets. Assumes nothing.
 use mathlib.Core.Path.{_≡_, refl, sym, ap, _∙_}
-use mathlib.Core.Bool.{cond}
-use mathlib.Core.List.{List, [], _∷_}
+use mathlib.Core.List.{List}
 use mathlib.Core.Logic.{_≢_}
 use Prim.Native.Nat.{ℕ, _+_, _*_, _/_, _≤_}
 use native.Mathlib.Omega.{arith}
-use lib.Dec.{eqb}
 use Rattle.coder.specs.Codes.{Octets, Message, Sound, distance}
 use Rattle.field.specs.Field.{Field, Laws}
 use Rattle.rs_algebra.specs.Polynomials.{Elements}
-use Rattle.rs_algebra.specs.Words.{wordOf, distance as wordDistance}
+use Rattle.rs_algebra.specs.Words.{wordOf}
 use Rattle.rs_algebra.proofs.Division.{check-remains}
 use Rattle.rs_algebra.proofs.Distance.{word-long, word-elements, words-differ}
 use Rattle.reed_solomon.specs.ReedSolomon.{rsCode, CheckedWords}
-
--- the two counts of differing places are one
-pub same-distance : (a b : List ℕ) → distance a b ≡ wordDistance a b
-unfolding distance wordDistance
-same-distance [] b = refl
-same-distance (x ∷ a) [] = refl
-same-distance (x ∷ a) (y ∷ b) = ap (λ d. cond (eqb x y) 0 1 + d) (same-distance a b)
 
 module _ (f : Field) (laws : Laws f) where
   pub checked-words : (K R : ℕ) → CheckedWords f K R
@@ -46,4 +37,4 @@ module _ (f : Field) (laws : Laws f) where
             → 2 * (R / 2) + 1 ≤ distance (wordOf f R a) (wordOf f R b)
         far a b ha hb other =
             let differ = words-differ f laws R a b (ha .long ∙ sym (hb .long)) (omega (arith, ha .long)) (octets-elements a (ha .octets)) (octets-elements b (hb .octets)) other in
-            omega (arith, same-distance (wordOf f R a) (wordOf f R b))
+            omega arith

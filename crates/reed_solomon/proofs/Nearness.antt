@@ -15,12 +15,13 @@ use Rattle.coder.specs.declared.undecoded.Undecoded.the-variants.{Lost}
 use Rattle.coder.specs.Codes.{Octets, Decoded, fitting}
 use Rattle.field.specs.Field.{Field, Laws}
 use Rattle.rs_algebra.specs.Polynomials.{Elements}
-use Rattle.rs_algebra.specs.Words.{wordOf, checkDifference, distance}
+use Rattle.rs_algebra.specs.Words.{wordOf, checkDifference}
+use Rattle.coder.specs.Codes.{distance}
 use Rattle.rs_algebra.proofs.Lists.{take-elements}
 use Rattle.rs_algebra.proofs.Checks.{difference-none}
 use Rattle.reed_solomon.specs.ReedSolomon.{rsCode}
 use Rattle.reed_solomon.specs.Decoding.{NearWord, Answered}
-use Rattle.reed_solomon.proofs.Codes.{same-distance, octets-elements, elements-octets}
+use Rattle.reed_solomon.proofs.Codes.{octets-elements, elements-octets}
 
 no-distance : (a : List ℕ) → distance a a ≡ 0
 unfolding distance
@@ -66,7 +67,7 @@ module _ (f : Field) (laws : Laws f) (K R : ℕ) (received : List ℕ) where
           accepted,
           record {
             message = record { long = near .long ∙ long; octets = elements-octets f laws size after (near .elements) };
-            differing = same-distance (wordOf f R after) received ∙ near .differing;
+            differing = near .differing;
             within = near .within;
           },
         )
@@ -75,6 +76,6 @@ module _ (f : Field) (laws : Laws f) (K R : ℕ) (received : List ℕ) where
     lost after told =
         let far = told (octets-elements f laws size received octets) in (
           accepted,
-          λ m h. omega (arith, far .0 m (h .long ∙ sym long) (octets-elements f laws size m (h .octets)), same-distance (wordOf f R m) received),
+          λ m h. omega (arith, far .0 m (h .long ∙ sym long) (octets-elements f laws size m (h .octets))),
           far .1,
         )

@@ -13,7 +13,8 @@ use Rattle.std.proofs.shelf.Tests.{cases-lt}
 use Rattle.field.specs.Field.{Field, Laws, power}
 use Rattle.field.specs.Polynomials.{valueAt}
 use Rattle.rs_algebra.specs.Polynomials.{Elements, weighed}
-use Rattle.rs_algebra.specs.Words.{wordOf, checkDifference, distance, weight, Places, mend, termsAt}
+use Rattle.rs_algebra.specs.Words.{wordOf, checkDifference, weight, Places, mend, termsAt}
+use Rattle.coder.specs.Codes.{distance}
 use Rattle.rs_algebra.proofs.Checks.{difference-agrees}
 use Rattle.rs_algebra.proofs.Lists.{take-elements}
 use Rattle.rs_algebra.proofs.Mending.{mend-long, mend-elements, weight-most}

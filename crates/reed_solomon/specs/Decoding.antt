@@ -7,7 +7,8 @@ use Rattle.std.specs.declared.option.Option.{Option}
 use Rattle.std.specs.declared.option.Option.the-variants.{Some, None}
 use Rattle.field.specs.Field.{Field}
 use Rattle.rs_algebra.specs.Polynomials.{Elements}
-use Rattle.rs_algebra.specs.Words.{wordOf, distance}
+use Rattle.rs_algebra.specs.Words.{wordOf}
+use Rattle.coder.specs.Codes.{distance}
 
 -- a message of K elements whose word differs from the received one in d places, d at most R/2
 pub record NearWord (f : Field) (K R : ℕ) (received m : List ℕ) (d : ℕ) : Type 0 where

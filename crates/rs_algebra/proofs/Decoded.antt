@@ -10,7 +10,8 @@ use Rattle.std.proofs.shelf.Tests.{cases-lt, cases-eq}
 use Rattle.field.specs.Field.{Field, Laws, power}
 use Rattle.rs_algebra.specs.Polynomials.{Elements, zeros, plus, lowAt, weighed}
 use Rattle.field.specs.Polynomials.{valueAt}
-use Rattle.rs_algebra.specs.Words.{wordOf, distance, weight, locator, ValueFor, Places, mend, termsAt, Agree}
+use Rattle.rs_algebra.specs.Words.{wordOf, weight, locator, ValueFor, Places, mend, termsAt, Agree}
+use Rattle.coder.specs.Codes.{distance}
 use Rattle.rs_algebra.proofs.Lists.{same-reads, zeros-long, zeros-read, zeros-elements}
 use Rattle.rs_algebra.proofs.Locator.{locates}
 use Rattle.rs_algebra.proofs.Values.{value-at}

@@ -14,7 +14,9 @@ use Rattle.std.proofs.shelf.Ways.{tells}
 use Rattle.field.specs.Field.{Field, Laws, power}
 use Rattle.rs_algebra.specs.Polynomials.{Elements, zeros, plus}
 use Rattle.field.specs.Polynomials.{valueAt}
-use Rattle.rs_algebra.specs.Words.{checkOf, wordOf, Vanishes, Agree, distance, weight}
+use Rattle.rs_algebra.specs.Words.{checkOf, wordOf, Vanishes, Agree, weight}
+use Rattle.coder.specs.Codes.{distance}
+use Rattle.coder.proofs.Distances.{distance-le}
 use Rattle.field.proofs.Sums.{xor-same, xor-none}
 use Rattle.rs_algebra.proofs.Lists.{plus-none, plus-long, plus-elements, append-elements, take-elements}
 use Rattle.rs_algebra.proofs.Polynomials.{value-plus}
@@ -32,15 +34,6 @@ apart-sum x y = go (cases-bool (eqb x y))
     go (inl e) = rw (eq-eqb (bitXor x y) 0 (xor-none x y (eqb-true x y e)), e)
     go (inr e) = rw (ne-eqb (bitXor x y) 0 (λ z. eqb-false x y e (xor-same x y z)), e)
 
-apart-comm : (x y : ℕ) → apart x y ≡ apart y x
-apart-comm x y = grind (arith, tells)
-
-apart-over : (x y z : ℕ) → apart x z ≤ apart x y + apart y z
-apart-over x y z = grind (arith, tells)
-
-apart-most : (x y : ℕ) → apart x y ≤ 1
-apart-most x y = grind (arith, tells)
-
 apart-none : (x : ℕ) → apart x x ≡ 0
 apart-none x = rw (eq-eqb x x refl)
 
@@ -57,26 +50,6 @@ unfolding weight distance
 distance-zeros [] n h = refl
 distance-zeros (x ∷ a) zero h = absurd (omega arith)
 distance-zeros (x ∷ a) (suc n) h = ap (λ d. apart x 0 + d) (distance-zeros a n (omega arith))
-
-pub distance-comm : (a b : List ℕ) → distance a b ≡ distance b a
-unfolding distance
-distance-comm [] [] = refl
-distance-comm [] (y ∷ b) = refl
-distance-comm (x ∷ a) [] = refl
-distance-comm (x ∷ a) (y ∷ b) = ap₂ _+_ (apart-comm x y) (distance-comm a b)
-
-pub distance-over : (a b c : List ℕ) → length a ≡ length b → length b ≡ length c → distance a c ≤ distance a b + distance b c
-unfolding distance
-distance-over [] b c h k = omega arith
-distance-over (x ∷ a) [] c h k = absurd (omega arith)
-distance-over (x ∷ a) (y ∷ b) [] h k = absurd (omega arith)
-distance-over (x ∷ a) (y ∷ b) (z ∷ c) h k = omega (arith, apart-over x y z, distance-over a b c (omega arith) (omega arith))
-
-pub distance-most : (a b : List ℕ) → distance a b ≤ length a
-unfolding distance
-distance-most [] b = omega arith
-distance-most (x ∷ a) [] = omega arith
-distance-most (x ∷ a) (y ∷ b) = omega (arith, apart-most x y, distance-most a b)
 
 -- words that begin alike differ in what follows
 pub distance-behind : (a b c : List ℕ) → distance (a ++ b) (a ++ c) ≡ distance b c
@@ -148,6 +121,6 @@ module _ (f : Field) (laws : Laws f) where
           omega (
             arith,
             distance-behind (take K w) (drop K w) (checkOf f R (take K w)),
-            distance-most (drop K w) (checkOf f R (take K w)),
+            distance-le (drop K w) (checkOf f R (take K w)),
             length-drop K w,
           )

@@ -9,11 +9,13 @@ use Rattle.std.proofs.shelf.Lists.{length-take-le}
 use Rattle.field.specs.Field.{Field, Laws, power}
 use Rattle.rs_algebra.specs.Polynomials.{Elements, zeros, plus}
 use Rattle.field.specs.Polynomials.{valueAt}
-use Rattle.rs_algebra.specs.Words.{wordOf, Agree, distance, weight}
+use Rattle.rs_algebra.specs.Words.{wordOf, Agree, weight}
+use Rattle.coder.specs.Codes.{distance}
 use Rattle.rs_algebra.proofs.Lists.{zeros-long, plus-comm, plus-again, plus-long, plus-elements, take-elements}
 use Rattle.rs_algebra.proofs.Polynomials.{value-plus}
 use Rattle.rs_algebra.proofs.Syndromes.{word-vanishes}
-use Rattle.rs_algebra.proofs.Distance.{weight-plus, distance-zeros, distance-comm, distance-over, word-long, word-elements, vanishes-plus, same-words, both-vanish, message-of, vanishing-word}
+use Rattle.coder.proofs.Distances.{distance-symmetric, distance-triangle}
+use Rattle.rs_algebra.proofs.Distance.{weight-plus, distance-zeros, word-long, word-elements, vanishes-plus, same-words, both-vanish, message-of, vanishing-word}
 
 module _ (f : Field) (laws : Laws f) (K R : ℕ) (w : List ℕ) (long : length w ≡ K + R) (fits : K + R < f .size) (elements : Elements f w) where
   module _ (err : List ℕ) (err-long : length err ≡ K + R) (err-elements : Elements f err) (agree : Agree f R w err) where
@@ -41,12 +43,12 @@ module _ (f : Field) (laws : Laws f) (K R : ℕ) (w : List ℕ) (long : length w
     mended-only m lm em near =
         let v = wordOf f R m in
         let lv : length v ≡ K + R = word-long f laws R m ∙ ap (λ k. k + R) lm in
-        let way = distance-over v w (plus w err) (lv ∙ sym long) (long ∙ sym mended-long) in
+        let way = distance-triangle v w (plus w err) (lv ∙ sym long) (long ∙ sym mended-long) in
         let same : v ≡ plus w err
         = same-words f laws R v (plus w err) (lv ∙ sym mended-long) (omega arith) (word-elements f laws R m em)
         (plus-elements f laws w err elements err-elements)
         (both-vanish f laws R v (plus w err) (word-vanishes f laws R m em) (vanishes-plus f laws R w err (long ∙ sym err-long) agree))
-        (omega (arith, way, distance-comm (plus w err) w, mended-distance)) in
+        (omega (arith, way, distance-symmetric (plus w err) w, mended-distance)) in
         sym (message-of f laws R m) ∙ ap (λ k. take k v) lm ∙ ap (take K) same
 
   -- what a near message's word differs by is such an error
@@ -61,7 +63,7 @@ module _ (f : Field) (laws : Laws f) (K R : ℕ) (w : List ℕ) (long : length w
     error-elements = plus-elements f laws w (wordOf f R m) elements (word-elements f laws R m em)
 
     pub error-weight : weight (plus w (wordOf f R m)) ≡ distance (wordOf f R m) w
-    error-weight = weight-plus w (wordOf f R m) (long ∙ sym v-long) ∙ distance-comm w (wordOf f R m)
+    error-weight = weight-plus w (wordOf f R m) (long ∙ sym v-long) ∙ distance-symmetric w (wordOf f R m)
 
     pub error-agrees : Agree f R w (plus w (wordOf f R m))
     error-agrees j h =
@@ -83,8 +85,8 @@ module _ (f : Field) (laws : Laws f) (K R : ℕ) (w : List ℕ) (long : length w
       same-words f laws R a b same (omega arith) ea eb (λ j h. sym (agree-a j h) ∙ agree-b j h)
       (omega (
         arith,
-        distance-over a (zeros n) b (sym (zeros-long n)) (zeros-long n ∙ same),
-        distance-comm (zeros n) b,
+        distance-triangle a (zeros n) b (sym (zeros-long n)) (zeros-long n ∙ same),
+        distance-symmetric (zeros n) b,
         distance-zeros a n refl,
         distance-zeros b n (sym same),
       ))

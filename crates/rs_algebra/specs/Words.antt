@@ -1,4 +1,4 @@
--- Reed-Solomon words: a message and its check octets, the distance of two words. Assumes nothing.
+-- Reed-Solomon words: a message and its check octets, and errors in them. Assumes nothing.
 use mathlib.Core.Path.{_≡_}
 use mathlib.Core.Bool.{Bool, cond}
 use Prim.Native.Nat.{ℕ, zero, suc, _+_, _-_, _≤_, _<_}
@@ -51,12 +51,6 @@ Vanishes f R w = (j : ℕ) → j < R → valueAt f w (power f j) ≡ 0
 
 abbrev pub Agree : Field → ℕ → List ℕ → List ℕ → Type 0
 Agree f R v w = (j : ℕ) → j < R → valueAt f v (power f j) ≡ valueAt f w (power f j)
-
--- in how many places two words of the same length differ
-unfoldable pub distance : List ℕ → List ℕ → ℕ
-distance [] ys = 0
-distance (x ∷ xs) [] = 0
-distance (x ∷ xs) (y ∷ ys) = cond (eqb x y) 0 1 + distance xs ys
 
 -- how many places of a word are not 0
 unfoldable pub weight : List ℕ → ℕ

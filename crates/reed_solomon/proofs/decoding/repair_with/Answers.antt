@@ -19,6 +19,6 @@ returns g c elements =
     let s-long : length s ≡ R = c .syndromes .kept .out ∙ c .pre .4 .0 in
     let l-long : length l ≡ R / 2 + 1 = c .locator .kept .locator ∙ c .pre .4 .1 in
     answered f (g .F·Field·met .laws) K R w s l (c .pre .1) (omega (arith, c .pre .1, c .pre .2)) elements s-long l-long
-      (λ j h. c .syndromes .ensures .values j h ∙ ap (λ d. valueAt f d (power f j)) (c .pre .3))
-      (c .args .message .now) (c .repair .last .message) (c .repair .result) mathlib.Core.Path.refl (c .locator .ensures .elements)
-      (λ j h. c .locator .ensures .killed j (omega (arith, h, l-long))) (c .repair .ensures)
+    (λ j h. c .syndromes .ensures .values j h ∙ ap (λ d. valueAt f d (power f j)) (c .pre .3))
+    (c .args .message .now) (c .repair .last .message) (c .repair .result) mathlib.Core.Path.refl (c .locator .ensures .elements)
+    (λ j h. c .locator .ensures .killed j (omega (arith, h, l-long))) (c .repair .ensures)
