@@ -10,5 +10,5 @@ cp "$here/bench/exports.rt.txt" "$work/crates/bench_exports/src/lib.rt"
 echo 'bench_exports: coder field rs_algebra reed_solomon' >> "$work/crates.txt"
 cd "$work"
 rt staticlib bench_exports
-gcc -O2 -o "$work/bench_words" bench/bench.c target/staticlib/libbench_exports.a -lfec -lm
+gcc -O2 -o "$work/bench_words" bench/bench.c target/staticlib/libbench_exports.a /opt/rattle/lib/librattle_c.a -lfec -lm
 "$work/bench_words"
