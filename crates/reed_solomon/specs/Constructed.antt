@@ -11,7 +11,7 @@ use Rattle.coder.specs.Refusals.{numberOf}
 use Rattle.coder.specs.Sizes.{Parameters, parameters, reedSolomonSizes}
 use Rattle.field.specs.Field.{Field}
 use Rattle.reed_solomon.specs.ReedSolomon.{rsCode, CheckedWords}
-use Rattle.reed_solomon.specs.Samples.{WordSamples}
+use Rattle.reed_solomon.specs.Samples.{WordSamples, DecodingSamples}
 use Rattle.reed_solomon.specs.declared.reed_solomon.ReedSolomon.{ReedSolomon}
 
 -- the sizes of a Reed-Solomon coder over a field, or refusal 1: a word has fewer octets than the field has elements
@@ -29,5 +29,5 @@ codeOver f s = rsCode f (s .sizes .frame) (s .check)
 
 -- a coder that was made has the code that was asked for, and its words are messages with their remainders
 abbrev pub Made : {F : Type 0} → Field → (K R : ℕ) → Result (ReedSolomon F) Refusal → Type 0
-Made f K R (Ok s) = (codeOver f s ≡ rsCode f K R) × CheckedWords f K R × WordSamples
+Made f K R (Ok s) = (codeOver f s ≡ rsCode f K R) × CheckedWords f K R × WordSamples × DecodingSamples
 Made f K R (Err e) = Unit {0}

@@ -1,7 +1,7 @@
 use mathlib.Core.Path.{refl, ap}
 use Rattle.reed_solomon.specs.ReedSolomon.{rsCode}
 use Rattle.reed_solomon.proofs.Codes.{checked-words}
-use Rattle.reed_solomon.proofs.Samples.{word-samples}
+use Rattle.reed_solomon.proofs.Samples.{word-samples, decoding-samples}
 use Rattle.reed_solomon.proofs.reed_solomon.ReedSolomon.of_sizes.Needs as need
 
 pub returns : need.returns
@@ -13,5 +13,6 @@ returns g c =
         ap (λ K. rsCode f K (c .args .check)) (c .pre .0 .0),
         checked-words f (g .F·Field·met .laws) (c .args .frame) (c .args .check),
         word-samples,
+        decoding-samples,
       );
     }
