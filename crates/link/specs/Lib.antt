@@ -1,0 +1,4 @@
+pub mod Refusals
+pub mod Losses
+pub mod Senders
+pub mod Receivers

@@ -1,0 +1,16 @@
+// The two ends of the line: the calls that a host makes, and the burst limit that they keep.
+pub mod given_back;
+pub mod loss;
+pub mod receiver;
+pub mod refused;
+pub mod sender;
+
+pub use given_back::GivenBack;
+pub use loss::Cause;
+pub use loss::Loss;
+pub use loss::Unreceived;
+pub use receiver::Filling;
+pub use receiver::Running;
+pub use refused::Refused;
+pub use sender::Draining;
+pub use sender::Sending;
