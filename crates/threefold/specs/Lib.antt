@@ -1,0 +1,2 @@
+pub mod Threefold
+pub mod Votes
