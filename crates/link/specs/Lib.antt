@@ -2,3 +2,4 @@ pub mod Refusals
 pub mod Losses
 pub mod Senders
 pub mod Receivers
+pub mod Passing

@@ -1,6 +1,7 @@
 // The two ends of the line: the calls that a host makes, and the burst limit that they keep.
 pub mod given_back;
 pub mod loss;
+mod passing;
 pub mod receiver;
 pub mod refused;
 pub mod sender;
