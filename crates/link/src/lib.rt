@@ -1,4 +1,6 @@
 // The two ends of the line: the calls that a host makes, and the burst limit that they keep.
+pub mod filling;
+mod gathering;
 pub mod given_back;
 pub mod loss;
 mod passing;
