@@ -1,0 +1,4 @@
+pub mod Settings
+pub mod Counted
+pub mod Halves
+pub mod Taken
