@@ -3,7 +3,7 @@ use mathlib.Core.Path.{_≡_}
 use mathlib.Core.List.{List, _++_}
 use Prim.{Unit, ⊥}
 use Prim.Native.Nat.{ℕ, _-_}
-use lib.ListN.{take, drop}
+use lib.ListN.{length, take, drop}
 use Rattle.std.specs.declared.result.Result.{Result}
 use Rattle.std.specs.declared.result.Result.the-variants.{Ok, Err}
 use Rattle.coder.specs.declared.arrival.Arrival.{Arrival}
@@ -16,6 +16,8 @@ use Rattle.link.specs.Receivers.{filling}
 
 pub record Gathered (p : Plan) (clock : ℕ) (memory memory′ line word : List Arrival) : Type 0 where
   pub delays : Delays p clock memory memory′ line
+  -- as many leave as enter
+  pub long : length (delayed p clock memory line) ≡ p .word
   -- what was gathered before comes first
   pub completes : word ≡ gathered p (kept p (p .lag)) memory ++ take (p .word - kept p (p .lag)) (delayed p clock memory line)
   -- and the rest is gathered for the next word
