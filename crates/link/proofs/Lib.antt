@@ -2,3 +2,4 @@ pub mod Settings
 pub mod Counted
 pub mod Halves
 pub mod Taken
+pub mod Marks

@@ -4,3 +4,4 @@ pub mod Senders
 pub mod Receivers
 pub mod Passing
 pub mod Gathering
+pub mod Reading

@@ -4,9 +4,12 @@ mod gathering;
 pub mod given_back;
 pub mod loss;
 mod passing;
+mod reading;
 pub mod receiver;
 pub mod refused;
+pub mod running;
 pub mod sender;
+mod unread;
 
 pub use given_back::GivenBack;
 pub use loss::Cause;

@@ -1,6 +1,7 @@
 // A word that was received and gave no frame: what lost it, and which word it was.
 ghost use mathlib.Core.Path.{_≡_};
 ghost use Rattle.link.specs.Losses.{causeNumber, unreceivedNumber};
+ghost use Rattle.link.specs.declared.loss.Unreceived.the-variants.{Refused as NotTaken};
 use crate::refused::Refused;
 use crate::refused::RefusedDebug;
 use crate::refused::RefusedEq;
@@ -26,6 +27,14 @@ pub struct Loss {
 pub enum Unreceived {
     Refused(Refused),
     Lost(Loss),
+}
+
+pub impl From<Refused> for Unreceived as UnreceivedFromRefused {
+    ghost converts = { λ e r. r ≡ NotTaken e };
+
+    fn from(refused: Refused) -> Unreceived {
+        Unreceived::Refused(refused)
+    }
 }
 
 impl Cause {
