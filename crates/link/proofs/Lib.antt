@@ -3,3 +3,4 @@ pub mod Counted
 pub mod Halves
 pub mod Taken
 pub mod Marks
+pub mod Read

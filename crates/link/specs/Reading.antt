@@ -1,7 +1,7 @@
 -- What a gathered word gives, and each layer's answer with what it adds to it. Assumes nothing.
 use mathlib.Core.Path.{_≡_}
 use mathlib.Core.List.{List, map}
-use Prim.{⊥}
+use Prim.{⊥, tt}
 use Prim.Native.Nat.{ℕ}
 use Rattle.std.specs.declared.result.Result.{Result}
 use Rattle.std.specs.declared.result.Result.the-variants.{Ok, Err}
@@ -11,7 +11,7 @@ use Rattle.coder.specs.declared.arrival.Arrival.{Arrival}
 use Rattle.coder.specs.declared.undecoded.Undecoded.{Undecoded}
 use Rattle.coder.specs.declared.undecoded.Undecoded.the-variants as undecoded
 use Rattle.setting.specs.Settings.{plan}
-use Rattle.runs.specs.Receivers.{Gives, Received, delivered, marksIn}
+use Rattle.runs.specs.Receivers.{Gives, Received, delivered, marksIn, receiveAnswer}
 use Rattle.link.specs.declared.loss.Cause.{Cause}
 use Rattle.link.specs.declared.loss.Cause.the-variants.{Coder, Scrambler}
 use Rattle.link.specs.declared.loss.Unreceived.{Unreceived}
@@ -54,7 +54,11 @@ Frames c s s′ word frame frame′ (Ok repaired) = Gives c (running s) (running
 Frames c s s′ word frame frame′ (Err (Lost cause)) = Gives c (running s) (running s′) word (answerOf cause) × (frame′ ≡ frame)
 Frames c s s′ word frame frame′ (Err (Unfit misfit)) = ⊥
 
--- an accepted receive
+-- a receive that is not refused
+abbrev pub Accepts : Code → Running → (memory line : List Arrival) (frame : List ℕ) → Type 0
+Accepts c s memory line frame = receiveAnswer (plan (s .setting)) c (running s) memory line frame ≡ Ok tt
+
+-- and what it leaves
 abbrev pub Takes : Code → (s s′ : Running) (memory memory′ line : List Arrival) (frame frame′ : List ℕ) → Result ℕ Unread → Type 0
 Takes c s s′ memory memory′ line frame frame′ (Ok repaired) =
     Received (plan (s .setting)) c (running s) (running s′) memory memory′ line (delivered repaired frame′)

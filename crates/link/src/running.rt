@@ -4,7 +4,7 @@ ghost use Prim.Native.Nat.{_+_, _≤_, _<_};
 ghost use lib.ListN.{length};
 ghost use Rattle.runs.specs.Receivers.{receiveAnswer};
 ghost use Rattle.setting.specs.Settings.{plan};
-ghost use Rattle.link.specs.Reading.{Descrambles, Frames, Takes};
+ghost use Rattle.link.specs.Reading.{Accepts, Descrambles, Frames, Takes};
 ghost use Rattle.link.specs.Receivers.{running, Receives};
 ghost use Rattle.link.specs.Refusals.{told};
 use crate::gathering::memory_length;
@@ -103,4 +103,47 @@ impl Running {
         frame.copy_from_slice(message);
         Ok(repaired)
     }
+
+    // Reads the word that the arrivals complete. Lost or not, it counts.
+    fn receive_word<C: Coder>(
+        &mut self,
+        coder: &C,
+        memory: &mut [Arrival],
+        line: &[Arrival],
+        frame: &mut [u8],
+    ) -> Result<usize, Unread>
+        requires { ⌜ Accepts (C·Coder .code (now coder)) (now self) (now memory) (now line) (now frame) ⌝ }
+        ensures takes { λ r. ⌜ Takes (C·Coder .code (now (coder .entry))) (now (self .entry)) (now (self .exit)) (now (memory .entry)) (now (memory .exit)) (now (line .entry)) (now (frame .entry)) (now (frame .exit)) r ⌝ }
+        ensures setting { λ _. ⌜ now (self .exit) .setting ≡ now (self .entry) .setting ⌝ }
+    {
+        let mut room = [Arrival::Lost; LONGEST_WORD];
+        let word = &mut room[..self.setting.sizes.word];
+        next_word(
+            &self.setting,
+            self.setting.lag + self.words,
+            memory,
+            line,
+            word,
+        )?;
+        self.words += 1;
+        self.read_word(coder, word, frame)
+    }
+
+    // Takes the arrivals of a word's length, and hands out the frame of the word that they complete and how many of its octets were repaired.
+    pub fn receive<C: Coder>(
+        &mut self,
+        coder: &C,
+        memory: &mut [Arrival],
+        line: &[Arrival],
+        frame: &mut [u8],
+    ) -> Result<usize, Unreceived>
+        ensures { λ r. ⌜ Receives (C·Coder .code (now (coder .entry))) (now (self .entry)) (now (self .exit)) (now (memory .entry)) (now (memory .exit)) (now (line .entry)) (now (frame .entry)) (now (frame .exit)) r ⌝ }
+    {
+        self.takes(coder, memory, line, frame)?;
+        let word = self.words;
+        at_word(self.receive_word(coder, memory, line, frame), word)
+    }
+
+    // Ends the receiver. What waits in its memory is let go.
+    pub fn close(self) {}
 }
