@@ -1,5 +1,7 @@
 // The two ends of the line: the calls that a host makes, and the burst limit that they keep.
+mod fitting;
 pub mod given_back;
+mod interleaving;
 pub mod loss;
 mod passing;
 pub mod receiver;

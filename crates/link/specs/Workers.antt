@@ -1,0 +1,28 @@
+-- What the private parts of the calls ensure. Where the lengths fit nothing is refused. Assumes nothing.
+use mathlib.Core.Path.{_≡_}
+use mathlib.Core.Bool.{Bool}
+use mathlib.Core.List.{List}
+use Prim.{Unit, ⊥}
+use Prim.Native.Nat.{ℕ}
+use Rattle.std.specs.declared.result.Result.{Result}
+use Rattle.std.specs.declared.result.Result.the-variants.{Ok, Err}
+use Rattle.places.specs.Line.{Plan}
+use Rattle.coder.specs.Codes.{Code, Octets}
+use Rattle.coder.specs.declared.misfit.Misfit.{Misfit}
+use Rattle.scrambler.specs.Scrambler.{scrambled, after}
+use Rattle.runs.specs.Senders.{Interleaves}
+
+-- a word enters the interleaver
+abbrev pub Interleaved : Plan → (clock : ℕ) (memory memory′ entering line : List ℕ) → Result (Unit {0}) Misfit → Type 0
+Interleaved p clock memory memory′ entering line (Ok _) = Interleaves p clock memory memory′ entering line
+Interleaved p clock memory memory′ entering line (Err misfit) = ⊥
+
+-- a frame is scrambled and coded
+pub record Coded (c : Code) (earlier earlier′ : List Bool) (frame word : List ℕ) : Type 0 where
+  pub octets : Octets frame
+  pub coded : word ≡ c .wordOf (scrambled earlier frame)
+  pub later : earlier′ ≡ after earlier (scrambled earlier frame)
+
+abbrev pub Codes : Code → (earlier earlier′ : List Bool) (frame word : List ℕ) → Result (Unit {0}) Misfit → Type 0
+Codes c earlier earlier′ frame word (Ok _) = Coded c earlier earlier′ frame word
+Codes c earlier earlier′ frame word (Err misfit) = ⊥
