@@ -1,4 +1,5 @@
 // The two ends of the line: the calls that a host makes, and the burst limit that they keep.
+mod coding;
 mod fitting;
 pub mod given_back;
 mod interleaving;
