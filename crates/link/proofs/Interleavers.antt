@@ -2,8 +2,8 @@
 use mathlib.Core.Path.{_≡_, refl, sym, ap, _∙_}
 use mathlib.Core.List.{List}
 use Prim.{Unit}
-use Prim.Native.Nat.{ℕ, _+_, _*_, _<_, _≤_}
-use native.Mathlib.Nat.{mul-le-mul}
+use Prim.Native.Nat.{ℕ, _+_, _-_, _*_, _<_, _≤_}
+use native.Mathlib.Nat.{div-le-self, mul-le-mul}
 use native.Mathlib.Omega.{arith}
 use lib.ListN.{length}
 use Rattle.std.specs.declared.result.Result.{Result}
@@ -12,8 +12,9 @@ use Rattle.coder.specs.declared.misfit.Misfit.{Misfit}
 use Rattle.delay.specs.declared.triangle.Triangle.{Triangle}
 use Rattle.delay.specs.Triangles.{memoryOf, rising}
 use Rattle.setting.specs.declared.setting.Setting.{Setting}
+use Rattle.setting.specs.Relations.{delayOf}
 use Rattle.setting.specs.Settings.{plan}
-use Rattle.setting.proofs.Facts.{parts-le}
+use Rattle.setting.proofs.Facts.{block-le, parts-le}
 use Rattle.link.specs.Passing.{Passed, Passes}
 use Rattle.link.specs.Workers.{Interleaved}
 
@@ -23,6 +24,13 @@ module _ (s : Setting) where
   clock-below words h =
       let few : words ≤ 16777215 = omega arith in
       omega (arith, mul-le-mul few (parts-le s), parts-le s)
+
+  pub delay-below : s .delay ≤ 255 * 254
+  delay-below = let less : s .block - 1 ≤ 254 = omega (arith, block-le s) in omega (arith, s .delays, mul-le-mul (s .bounded .0) less)
+
+  -- and so many words enter at most
+  pub entered-below : (words drained : ℕ) → words ≤ 1000000 → drained ≤ s .lag → words + drained < 16777216
+  entered-below words drained few drains = omega (arith, s .lags, s .delays, delay-below, div-le-self (delayOf (s .block) (s .step)) (s .parts))
 
   -- what the delay line needs of the lengths
   pub fits : (t : Triangle) → t ≡ rising (s .block) (s .step) → (words : ℕ) → words < 16777216

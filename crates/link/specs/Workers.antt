@@ -1,16 +1,24 @@
 -- What the private parts of the calls ensure. Where the lengths fit nothing is refused. Assumes nothing.
 use mathlib.Core.Path.{_≡_}
 use mathlib.Core.Bool.{Bool}
+use mathlib.Core.Logic.{_≢_}
 use mathlib.Core.List.{List}
 use Prim.{Unit, ⊥}
 use Prim.Native.Nat.{ℕ}
+use lib.ListN.{length, replicate}
 use Rattle.std.specs.declared.result.Result.{Result}
 use Rattle.std.specs.declared.result.Result.the-variants.{Ok, Err}
 use Rattle.places.specs.Line.{Plan}
 use Rattle.coder.specs.Codes.{Code, Octets}
 use Rattle.coder.specs.declared.misfit.Misfit.{Misfit}
+use Rattle.coder.specs.declared.misfit.Misfit.the-variants.{Memory}
 use Rattle.scrambler.specs.Scrambler.{scrambled, after}
 use Rattle.runs.specs.Senders.{Interleaves}
+
+-- the interleaver's memory is cleared, where it has its length
+abbrev pub Clearing : Plan → (memory memory′ : List ℕ) → Result (Unit {0}) Misfit → Type 0
+Clearing p memory memory′ (Ok _) = (length memory ≡ p .memory) × (memory′ ≡ replicate (p .memory) 0)
+Clearing p memory memory′ (Err misfit) = (length memory ≢ p .memory) × (misfit ≡ Memory) × (memory′ ≡ memory)
 
 -- a word enters the interleaver
 abbrev pub Interleaved : Plan → (clock : ℕ) (memory memory′ entering line : List ℕ) → Result (Unit {0}) Misfit → Type 0

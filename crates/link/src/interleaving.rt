@@ -3,7 +3,7 @@ ghost use mathlib.Core.Path.{_≡_};
 ghost use Prim.Native.Nat.{_*_, _<_};
 ghost use lib.ListN.{length};
 ghost use Rattle.delay.specs.Triangles.{rising};
-ghost use Rattle.link.specs.Workers.{Interleaved};
+ghost use Rattle.link.specs.Workers.{Clearing, Interleaved};
 ghost use Rattle.setting.specs.Settings.{plan};
 use crate::passing::pass_word;
 use coder::Misfit;
@@ -19,6 +19,13 @@ fn interleaver(setting: &Setting) -> Triangle
         step: setting.step as u8,
         lengths: Lengths::Rising,
     }
+}
+
+// Every branch is full of zeros.
+pub(crate) fn clear(setting: &Setting, memory: &mut [u8]) -> Result<(), Misfit>
+    ensures { λ r. ⌜ Clearing (plan (now (setting .entry))) (now (memory .entry)) (now (memory .exit)) r ⌝ }
+{
+    interleaver(setting).clear(memory, 0)
 }
 
 // A word enters that so many entered before: it stands in the line buffer, and the line octets take its place.

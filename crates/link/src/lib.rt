@@ -1,5 +1,6 @@
 // The two ends of the line: the calls that a host makes, and the burst limit that they keep.
 mod coding;
+pub mod draining;
 mod fitting;
 pub mod given_back;
 mod interleaving;
@@ -8,6 +9,7 @@ mod passing;
 pub mod receiver;
 pub mod refused;
 pub mod sender;
+pub mod sending;
 
 pub use given_back::GivenBack;
 pub use loss::Cause;
