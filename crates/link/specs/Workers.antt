@@ -13,7 +13,10 @@ use Rattle.coder.specs.Codes.{Code, Octets}
 use Rattle.coder.specs.declared.misfit.Misfit.{Misfit}
 use Rattle.coder.specs.declared.misfit.Misfit.the-variants.{Memory}
 use Rattle.scrambler.specs.Scrambler.{scrambled, after}
-use Rattle.runs.specs.Senders.{Interleaves}
+use Rattle.setting.specs.Settings.{plan}
+use Rattle.runs.specs.Senders.{Interleaves, Sent}
+use Rattle.link.specs.declared.sender.Sending.{Sending}
+use Rattle.link.specs.Senders.{sending}
 
 -- the interleaver's memory is cleared, where it has its length
 abbrev pub Clearing : Plan → (memory memory′ : List ℕ) → Result (Unit {0}) Misfit → Type 0
@@ -34,3 +37,9 @@ pub record Coded (c : Code) (earlier earlier′ : List Bool) (frame word : List 
 abbrev pub Codes : Code → (earlier earlier′ : List Bool) (frame word : List ℕ) → Result (Unit {0}) Misfit → Type 0
 Codes c earlier earlier′ frame word (Ok _) = Coded c earlier earlier′ frame word
 Codes c earlier earlier′ frame word (Err misfit) = ⊥
+
+-- a frame that no test refuses is sent
+abbrev pub SendsWord : Code → (s s′ : Sending) (memory memory′ frame line : List ℕ) → Result (Unit {0}) Misfit → Type 0
+SendsWord c s s′ memory memory′ frame line (Ok _) =
+    (s′ .setting ≡ s .setting) × Sent (plan (s .setting)) c (sending s) (sending s′) memory memory′ frame line
+SendsWord c s s′ memory memory′ frame line (Err misfit) = ⊥

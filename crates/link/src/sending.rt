@@ -1,5 +1,10 @@
 // The calls of a sender while it sends.
-ghost use Rattle.link.specs.Senders.{Ends, Opens, Sends};
+ghost use mathlib.Core.Path.{_≡_};
+ghost use Rattle.link.specs.Senders.{Ends, Opens, Sends, sending};
+ghost use Rattle.link.specs.Workers.{SendsWord};
+ghost use Rattle.runs.specs.Senders.{sendAnswer};
+ghost use Rattle.setting.specs.Settings.{plan};
+ghost use Rattle.std.specs.declared.result.Result.the-variants.{Ok};
 use crate::coding::encode_frame;
 use crate::fitting::frame_fits;
 use crate::fitting::line_fits;
@@ -52,6 +57,21 @@ impl Sending {
         if memory.len() != self.setting.memory {
             return Err(Refused::Unfit(Misfit::Memory));
         }
+        self.send_word(coder, memory, frame, line)?;
+        Ok(())
+    }
+
+    // Where everything fits: the frame becomes a word, and the word enters the interleaver.
+    fn send_word<C: Coder>(
+        &mut self,
+        coder: &C,
+        memory: &mut [u8],
+        frame: &[u8],
+        line: &mut [u8],
+    ) -> Result<(), Misfit>
+        requires { ⌜ sendAnswer (plan (now self .setting)) (C·Coder .code (now coder)) (sending (now self)) (now memory) (now frame) (now line) ≡ Ok tt ⌝ }
+        ensures { λ r. ⌜ SendsWord (C·Coder .code (now (coder .entry))) (now (self .entry)) (now (self .exit)) (now (memory .entry)) (now (memory .exit)) (now (frame .entry)) (now (line .exit)) r ⌝ }
+    {
         let mut earlier = self.earlier;
         encode_frame(coder, &mut earlier, frame, line)?;
         interleave(&self.setting, self.words, memory, line)?;
