@@ -3,5 +3,6 @@ pub mod Losses
 pub mod Senders
 pub mod Receivers
 pub mod Passing
+pub mod Workers
 pub mod Gathering
 pub mod Reading

@@ -1,7 +1,11 @@
 // The two ends of the line: the calls that a host makes, and the burst limit that they keep.
+mod coding;
+pub mod draining;
 pub mod filling;
+mod fitting;
 mod gathering;
 pub mod given_back;
+mod interleaving;
 pub mod loss;
 mod passing;
 mod reading;
@@ -9,6 +13,7 @@ pub mod receiver;
 pub mod refused;
 pub mod running;
 pub mod sender;
+pub mod sending;
 mod unread;
 
 pub use given_back::GivenBack;
