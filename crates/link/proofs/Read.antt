@@ -26,20 +26,23 @@ uncounted c s s′ count word (delivered repaired frame) gives = gives
 uncounted c s s′ count word (coder-loss marks) gives = gives
 uncounted c s s′ count word scrambler-loss gives = gives
 
-module _ (c : Code) (s counted s′ : Running) (memory memory′ line word : List Arrival)
-    (step : running counted ≡ record { earlier = earlierBits (s .earlier); words = s .words + 1; broken = s .broken }) (kept : s′ .words ≡ s .words + 1)
+module _ (c : Code) (s s′ : Running) (memory memory′ line word : List Arrival) (count : ℕ) (counts : s′ .words ≡ s .words + 1)
     (gathered : Gathered (plan (s .setting)) ((s .setting .lag + s .words) * s .setting .parts) memory memory′ line word) where
-  received : (answer : Answer) → Gives c (running counted) (running s′) word answer
+  abbrev counted : runs.Running
+  counted = record { earlier = earlierBits (s .earlier); words = count; broken = s .broken }
+
+  received : (answer : Answer) → Gives c counted (running s′) word answer
       → Received (plan (s .setting)) c (running s) (running s′) memory memory′ line answer
   received answer gives = record {
     delays = gathered .delays;
     gathers = gathered .gathers;
     gives = subst (λ (w : List Arrival). Gives c (running s) (running s′) w answer) (gathered .completes)
-        (uncounted c (running s) (running s′) (s .words + 1) word answer (subst (λ (r : runs.Running). Gives c r (running s′) word answer) step gives));
-    words = kept ∙ omega arith;
+        (uncounted c (running s) (running s′) count word answer gives);
+    words = counts ∙ omega arith;
   }
 
-  pub word-taken : (frame frame′ : List ℕ) (answer : Result ℕ Unread) → Frames c counted s′ word frame frame′ answer
+  pub word-taken : (frame frame′ : List ℕ) (answer : Result ℕ Unread) → Frames c counted (running s′) word frame frame′ answer
       → Takes c s s′ memory memory′ line frame frame′ answer
   word-taken frame frame′ (Ok repaired) gives = received (delivered repaired frame′) gives
   word-taken frame frame′ (Err (Lost cause)) gives = (received (answerOf cause) (gives .0), gives .1)
+  word-taken frame frame′ (Err (Unfit misfit)) none = none

@@ -12,6 +12,7 @@ use Rattle.coder.specs.declared.undecoded.Undecoded.{Undecoded}
 use Rattle.coder.specs.declared.undecoded.Undecoded.the-variants as undecoded
 use Rattle.setting.specs.Settings.{plan}
 use Rattle.runs.specs.Receivers.{Gives, Received, delivered, marksIn, receiveAnswer}
+use Rattle.runs.specs.Receivers as runs
 use Rattle.link.specs.declared.loss.Cause.{Cause}
 use Rattle.link.specs.declared.loss.Cause.the-variants.{Coder, Scrambler}
 use Rattle.link.specs.declared.loss.Unreceived.{Unreceived}
@@ -43,15 +44,15 @@ Messages c word message (Err (Lost Scrambler)) = ⊥
 Messages c word message (Err (Unfit misfit)) = ⊥
 
 -- the message descrambled
-abbrev pub Descrambles : Code → (s s′ : Running) (word : List Arrival) (message : List ℕ) → Result ℕ Unread → Type 0
-Descrambles c s s′ word message (Ok repaired) = Gives c (running s) (running s′) word (delivered repaired message)
-Descrambles c s s′ word message (Err (Lost cause)) = Gives c (running s) (running s′) word (answerOf cause)
+abbrev pub Descrambles : Code → (s s′ : runs.Running) (word : List Arrival) (message : List ℕ) → Result ℕ Unread → Type 0
+Descrambles c s s′ word message (Ok repaired) = Gives c s s′ word (delivered repaired message)
+Descrambles c s s′ word message (Err (Lost cause)) = Gives c s s′ word (answerOf cause)
 Descrambles c s s′ word message (Err (Unfit misfit)) = ⊥
 
 -- the frame that a word gives
-abbrev pub Frames : Code → (s s′ : Running) (word : List Arrival) (frame frame′ : List ℕ) → Result ℕ Unread → Type 0
-Frames c s s′ word frame frame′ (Ok repaired) = Gives c (running s) (running s′) word (delivered repaired frame′)
-Frames c s s′ word frame frame′ (Err (Lost cause)) = Gives c (running s) (running s′) word (answerOf cause) × (frame′ ≡ frame)
+abbrev pub Frames : Code → (s s′ : runs.Running) (word : List Arrival) (frame frame′ : List ℕ) → Result ℕ Unread → Type 0
+Frames c s s′ word frame frame′ (Ok repaired) = Gives c s s′ word (delivered repaired frame′)
+Frames c s s′ word frame frame′ (Err (Lost cause)) = Gives c s s′ word (answerOf cause) × (frame′ ≡ frame)
 Frames c s s′ word frame frame′ (Err (Unfit misfit)) = ⊥
 
 -- a receive that is not refused

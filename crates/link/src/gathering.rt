@@ -1,7 +1,7 @@
 // What a receiver gathers from its delay line: the first arrivals of a word wait in memory, behind the delay line, until the rest has come.
 ghost use mathlib.Core.Path.{_≡_};
 ghost use mathlib.Core.List.{_++_};
-ghost use Prim.Native.Nat.{_+_, _-_, _*_, _≤_};
+ghost use Prim.Native.Nat.{_+_, _-_, _*_, _≤_, _<_};
 ghost use lib.ListN.{length, take, drop};
 ghost use Rattle.delay.specs.Triangles.{falling};
 ghost use Rattle.runs.specs.Receivers as receivers;
@@ -61,7 +61,7 @@ pub(crate) fn next_word(
     requires { ⌜ length (now memory) ≡ now setting .memory + now setting .sizes .word ⌝ }
     requires { ⌜ length (now line) ≡ now setting .sizes .word ⌝ }
     requires { ⌜ length (now word) ≡ now setting .sizes .word ⌝ }
-    requires { ⌜ calls ≤ now setting .lag + 1000000 ⌝ }
+    requires { ⌜ calls < 16777216 ⌝ }
     ensures { λ r. ⌜ Gathers (plan (now (setting .entry))) (calls * now (setting .entry) .parts) (now (memory .entry)) (now (memory .exit)) (now (line .entry)) (now (word .exit)) r ⌝ }
 {
     word.copy_from_slice(line);

@@ -7,6 +7,8 @@ ghost use Rattle.setting.specs.Settings.{plan};
 ghost use Rattle.link.specs.Reading.{Accepts, Descrambles, Frames, Takes};
 ghost use Rattle.link.specs.Receivers.{running, Receives};
 ghost use Rattle.link.specs.Refusals.{told};
+use crate::fitting::frame_fits;
+use crate::fitting::line_fits;
 use crate::gathering::memory_length;
 use crate::gathering::next_word;
 use crate::loss::Cause;
@@ -37,15 +39,13 @@ impl Running {
     ) -> Result<(), Refused>
         ensures { λ r. ⌜ told r ≡ receiveAnswer (plan (now (self .entry) .setting)) (C·Coder .code (now (coder .entry))) (running (now (self .entry))) (now (memory .entry)) (now (line .entry)) (now (frame .entry)) ⌝ }
     {
-        let own = self.setting.sizes;
-        let sizes = coder.sizes();
         if self.words >= MOST_WORDS {
             return Err(Refused::PastLastWord);
         }
-        if frame.len() != own.frame || sizes.frame != own.frame || sizes.repairs != own.repairs {
+        if !frame_fits(&self.setting, coder, frame) {
             return Err(Refused::Unfit(Misfit::Frame));
         }
-        if line.len() != own.word || sizes.word != own.word {
+        if !line_fits(&self.setting, coder, line) {
             return Err(Refused::Unfit(Misfit::Line));
         }
         if memory.len() != memory_length(&self.setting) {
@@ -64,7 +64,7 @@ impl Running {
         requires { ⌜ length (now word) ≤ 255 ⌝ }
         requires { ⌜ length (now word) ≡ C·Coder .code (now coder) .sizes .word ⌝ }
         requires { ⌜ length (now message) ≡ C·Coder .code (now coder) .sizes .frame ⌝ }
-        ensures gives { λ r. ⌜ Descrambles (C·Coder .code (now (coder .entry))) (now (self .entry)) (now (self .exit)) (now (word .entry)) (now (message .exit)) r ⌝ }
+        ensures gives { λ r. ⌜ Descrambles (C·Coder .code (now (coder .entry))) (running (now (self .entry))) (running (now (self .exit))) (now (word .entry)) (now (message .exit)) r ⌝ }
         ensures setting { λ _. ⌜ now (self .exit) .setting ≡ now (self .entry) .setting ⌝ }
         ensures words { λ _. ⌜ now (self .exit) .words ≡ now (self .entry) .words ⌝ }
     {
@@ -93,7 +93,7 @@ impl Running {
         requires { ⌜ length (now word) ≡ C·Coder .code (now coder) .sizes .word ⌝ }
         requires { ⌜ length (now frame) ≡ C·Coder .code (now coder) .sizes .frame ⌝ }
         requires { ⌜ length (now frame) ≤ 255 ⌝ }
-        ensures gives { λ r. ⌜ Frames (C·Coder .code (now (coder .entry))) (now (self .entry)) (now (self .exit)) (now (word .entry)) (now (frame .entry)) (now (frame .exit)) r ⌝ }
+        ensures gives { λ r. ⌜ Frames (C·Coder .code (now (coder .entry))) (running (now (self .entry))) (running (now (self .exit))) (now (word .entry)) (now (frame .entry)) (now (frame .exit)) r ⌝ }
         ensures setting { λ _. ⌜ now (self .exit) .setting ≡ now (self .entry) .setting ⌝ }
         ensures words { λ _. ⌜ now (self .exit) .words ≡ now (self .entry) .words ⌝ }
     {

@@ -5,22 +5,20 @@ use native.Mathlib.Omega.{arith}
 use Rattle.std.proofs.shelf.Lists.{length-take-le}
 use Rattle.delay.specs.declared.triangle.Triangle.{Triangle}
 use Rattle.delay.specs.Triangles.{memoryOf}
-use Rattle.setting.proofs.Facts.{parts-le}
-use Rattle.link.proofs.Counted.{calls-below}
+use Rattle.link.proofs.Interleavers.{clock-below}
 use Rattle.link.proofs.Taken.{gathered-word}
 use Rattle.link.proofs.gathering.next_word.Needs as need
 
 pub mul-calls : need.mul-calls
-mul-calls c = let few = calls-below (c .args .setting .now) (c .args .calls) (c .pre .3) in search needs
+mul-calls c = let few = clock-below (c .args .setting .now) (c .args .calls) (c .pre .3) in search needs
 
 pub pass-word-requires : need.pass-word-requires
 pass-word-requires c κs =
     let s = c .args .setting .now in
-    let few = calls-below s (c .args .calls) (c .pre .3) in
     (
       c .copy-from-slice .ensures .len ∙ c .pre .2 ∙ sym (s .cut .1) ∙ ap (λ (t : Triangle). s .parts * t .block) (sym (c .falling-line .ensures)),
       length-take-le (s .memory) (c .args .memory .now) (omega arith) ∙ s .remembers ∙ ap memoryOf (sym (c .falling-line .ensures)),
-      omega (arith, few, parts-le s),
+      clock-below s (c .args .calls) (c .pre .3),
     )
 
 pub returns : need.returns

@@ -1,11 +1,21 @@
 use borrow.Author.Needs.{needs}
 use mathlib.Core.Path.{refl}
-use Rattle.link.proofs.Counted.{lag-below}
+use native.Mathlib.Omega.{arith}
+use Rattle.link.proofs.Interleavers.{entered-below}
 use Rattle.link.proofs.Taken.{filled-word}
 use Rattle.link.proofs.receiver.Filling.take_in.Needs as need
 
+pub next-word-requires : need.next-word-requires
+next-word-requires c κs =
+    let s = c .args .self .now in
+    let few = entered-below (s .setting) 0 (s .filled) (omega arith) (s .fills) in
+    search needs
+
 pub add-self : need.add-self
-add-self c = let few = lag-below (c .args .self .now .setting) in search needs
+add-self c =
+    let s = c .args .self .now in
+    let few = entered-below (s .setting) 0 (s .filled) (omega arith) (s .fills) in
+    search needs
 
 pub returns : need.returns
 returns c =
