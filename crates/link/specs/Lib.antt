@@ -1,0 +1,8 @@
+pub mod Refusals
+pub mod Losses
+pub mod Senders
+pub mod Receivers
+pub mod Passing
+pub mod Workers
+pub mod Gathering
+pub mod Reading
