@@ -31,7 +31,7 @@ loop-part-again g c =
     let block-long : s + t .block - s ≡ t .block = omega arith in
     let within = inside (t .block) (c .loop-part .part) (c .args .parts) (length (c .args .word .now)) (c .loop-part-test .taken) (c .pre .0) in
     let pushed : Through _ t (c .args .clock + c .loop-part .part) (c .loop-part .memory) (c .push .last .memory)
-        (take (t .block) (drop s (c .loop-part .word))) (c .push .last .block)
+    (take (t .block) (drop s (c .loop-part .word))) (c .push .last .block)
     = rw block-long at (c .in-Continue-push .ensures tt .2) in
     rw block-long (more t (c .args .clock) (c .args .memory .now) (c .args .word .now) (c .loop-part .inv) within pushed)
 
