@@ -6,3 +6,10 @@ pub mod Rows
 pub mod Words
 pub mod SenderLine
 pub mod ReceiverWords
+pub mod Differences
+pub mod Counts
+pub mod Received
+pub mod Arriving
+pub mod Apart
+pub mod Sharp
+pub mod Rides
