@@ -3,3 +3,4 @@ pub mod Losses
 pub mod Senders
 pub mod Receivers
 pub mod Passing
+pub mod Limits
