@@ -6,3 +6,4 @@ pub mod Passing
 pub mod Workers
 pub mod Gathering
 pub mod Reading
+pub mod Limits

@@ -6,6 +6,7 @@ mod fitting;
 mod gathering;
 pub mod given_back;
 mod interleaving;
+pub mod limit;
 pub mod loss;
 mod passing;
 mod reading;
@@ -17,6 +18,7 @@ pub mod sending;
 mod unread;
 
 pub use given_back::GivenBack;
+pub use limit::burst_limit;
 pub use loss::Cause;
 pub use loss::Loss;
 pub use loss::Unreceived;
