@@ -1,5 +1,5 @@
 -- Lists changed in two parts. Assumes nothing.
-use mathlib.Core.Path.{_≡_, ap, _∙_}
+use mathlib.Core.Path.{_≡_, ap, ap₂, _∙_}
 use mathlib.Core.List.{List, _++_}
 use Prim.Native.Nat.{ℕ, _+_, _-_, _≤_}
 use native.Mathlib.Omega.{arith}
@@ -7,19 +7,22 @@ use borrow.Rule.Slice.PartMut.{putMid, postOf}
 use lib.ListN.{length, take, drop}
 use Rattle.std.proofs.shelf.Lists.{drop-at, take-at, take-append-le, take-rest, length-append, length-drop, length-take-le}
 
--- the last elements of a list turned to its front
-module _ {E : Type 0} (n : ℕ) (xs : List E) (fits : n ≤ length xs) where
-  abbrev turned : List E
-  turned = drop (length xs - n) xs ++ take (length xs - n) xs
+-- the last n elements of a list are turned to its front, and then change places with the first n of another list
+module _ {E : Type 0} (n : ℕ) (xs others turned front back : List E) (fits : n ≤ length xs)
+    (turns : turned ≡ drop (length xs - n) xs ++ take (length xs - n) xs) (to-front : front ≡ take n others) (to-back : back ≡ take n turned) where
+  abbrev last : List E
+  last = drop (length xs - n) xs
 
-  last-long : length (drop (length xs - n) xs) ≡ n
+  last-long : length last ≡ n
   last-long = length-drop (length xs - n) xs ∙ omega arith
 
-  pub front-turned : take n turned ≡ drop (length xs - n) xs
-  front-turned = take-at (drop (length xs - n) xs) (take (length xs - n) xs) n last-long
+  pub exchanged : front ++ drop n turned ≡ take n others ++ take (length xs - n) xs
+  exchanged = ap₂ _++_ to-front (ap (drop n) turns ∙ drop-at last (take (length xs - n) xs) n last-long)
 
-  pub back-turned : drop n turned ≡ take (length xs - n) xs
-  back-turned = drop-at (drop (length xs - n) xs) (take (length xs - n) xs) n last-long
+  pub exchanged-other : take n (back ++ drop n others) ≡ last
+  exchanged-other =
+      let back-is : back ≡ last = to-back ∙ ap (take n) turns ∙ take-at last (take (length xs - n) xs) n last-long in
+      take-at back (drop n others) n (ap length back-is ∙ last-long) ∙ back-is
 
 -- a list with its first P elements changed, and then the others too
 abbrev pub half : {E : Type 0} → (P : ℕ) (list front : List E) → List E

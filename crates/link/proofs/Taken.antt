@@ -53,23 +53,20 @@ module _ (s : Setting) (clock : ℕ) (memory line : List Arrival) (whole : lengt
     abbrev first-changed : List Arrival
     first-changed = half P memory waiting
 
-    pub gathered-word : (count : ℕ) (begun word : List Arrival) → length leaving ≡ N → length begun ≡ N → count ≡ n
-        → word ≡ take count (take (length first-changed - P) (drop P first-changed)) ++ take (length leaving - count) leaving
-        → take count begun ≡ drop (length leaving - count) leaving
+    pub gathered-word : (begun word : List Arrival) → length leaving ≡ N → length begun ≡ N
+        → word ≡ take n (take (length first-changed - P) (drop P first-changed)) ++ take (length leaving - n) leaving
+        → take n begun ≡ drop (length leaving - n) leaving
         → Gathered (plan s) clock memory (both P memory waiting begun) line word
-    gathered-word count begun word ll bl ce completes gathers =
-        let rest : length leaving - count ≡ N - n = omega arith in
+    gathered-word begun word ll bl completes gathers =
+        let rest : length leaving - n ≡ N - n = omega arith in
         record {
           delays = record {
             waits = λ j h. ap (λ xs. queue (falling (s .block) (s .step)) (clock + s .parts) xs j) (first-part P N memory waiting begun whole waiting-long bl) ∙ waits j h;
             size = both-long P N memory waiting begun whole waiting-long bl;
           };
           long = ap length (sym leaves) ∙ ll;
-          completes =
-              completes
-              ∙ ap₂ _++_ (ap₂ take ce (second-kept P N memory waiting begun whole waiting-long bl)) (ap₂ take rest leaves);
-          gathers =
-              second-part P N memory waiting begun whole waiting-long bl n (kept-fits s) ∙ ap (λ k. take k begun) (sym ce) ∙ gathers ∙ ap₂ drop rest leaves;
+          completes = completes ∙ ap₂ _++_ (ap (take n) (second-kept P N memory waiting begun whole waiting-long bl)) (ap₂ take rest leaves);
+          gathers = second-part P N memory waiting begun whole waiting-long bl n (kept-fits s) ∙ gathers ∙ ap₂ drop rest leaves;
         }
 
 -- a fill: what is gathered counts only from the last fill on

@@ -50,6 +50,15 @@ fn exchange(kept: usize, gathered: &mut [Arrival], word: &mut [Arrival])
     word[..kept].swap_with_slice(&mut gathered[..kept]);
 }
 
+// What leaves the delay line completes a word and begins the next one.
+fn complete(setting: &Setting, gathered: &mut [Arrival], word: &mut [Arrival])
+    requires { ⌜ length (now word) ≡ now setting .sizes .word ⌝ ∗ ⌜ length (now gathered) ≡ length (now word) ⌝ }
+    ensures completes { λ _. ⌜ now (word .exit) ≡ take (receivers.kept (plan (now (setting .entry))) (now (setting .entry) .lag)) (now (gathered .entry)) ++ take (length (now (word .entry)) - receivers.kept (plan (now (setting .entry))) (now (setting .entry) .lag)) (now (word .entry)) ⌝ }
+    ensures gathers { λ _. ⌜ take (receivers.kept (plan (now (setting .entry))) (now (setting .entry) .lag)) (now (gathered .exit)) ≡ drop (length (now (word .entry)) - receivers.kept (plan (now (setting .entry))) (now (setting .entry) .lag)) (now (word .entry)) ⌝ }
+{
+    exchange(kept(setting), gathered, word);
+}
+
 // A word of arrivals enters the delay line; a word is completed by what leaves, and the next one begun.
 pub(crate) fn next_word(
     setting: &Setting,
@@ -72,6 +81,6 @@ pub(crate) fn next_word(
         &mut memory[..setting.memory],
         word,
     )?;
-    exchange(kept(setting), &mut memory[setting.memory..], word);
+    complete(setting, &mut memory[setting.memory..], word);
     Ok(())
 }

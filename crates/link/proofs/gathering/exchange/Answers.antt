@@ -1,19 +1,17 @@
-use mathlib.Core.Path.{ap, ap₂, _∙_}
-use mathlib.Core.List.{_++_}
-use native.Mathlib.Omega.{arith}
-use lib.ListN.{take, drop}
-use Rattle.std.proofs.shelf.Lists.{take-at, length-take-le}
-use Rattle.link.proofs.Halves.{front-turned, back-turned}
+use Rattle.link.proofs.Halves.{exchanged, exchanged-other}
 use Rattle.link.proofs.gathering.exchange.Needs as need
 
 pub returns : need.returns
 returns c =
-    let kept = c .args .kept in
-    let word = c .args .word .now in
-    let turned = c .rotate-right .ensures .after in
-    let swapped = c .swap-with-slice .ensures in
-    let long = swapped .other-len ∙ length-take-le kept (c .args .gathered .now) (omega arith) in
+    let n = c .args .kept in
+    let xs = c .args .word .now in
+    let others = c .args .gathered .now in
+    let turned = c .rotate-right .last .self in
+    let front = c .swap-with-slice .last .self in
+    let back = c .swap-with-slice .last .other in
+    let turns = c .rotate-right .ensures .after in
+    let swaps = c .swap-with-slice .ensures in
     record {
-      completes = ap₂ _++_ (swapped .after) (ap (drop kept) turned ∙ back-turned kept word (c .pre .0));
-      gathers = take-at (c .swap-with-slice .last .other) (drop kept (c .args .gathered .now)) kept long ∙ swapped .other-after ∙ ap (take kept) turned ∙ front-turned kept word (c .pre .0);
+      completes = exchanged n xs others turned front back (c .pre .0) turns (swaps .after) (swaps .other-after);
+      gathers = exchanged-other n xs others turned front back (c .pre .0) turns (swaps .after) (swaps .other-after);
     }

@@ -14,8 +14,7 @@ mul-calls c = let few = clock-below (c .args .setting .now) (c .args .calls) (c 
 
 pub pass-word-requires : need.pass-word-requires
 pass-word-requires c κs =
-    let s = c .args .setting .now in
-    (
+    let s = c .args .setting .now in (
       c .copy-from-slice .ensures .len ∙ c .pre .2 ∙ sym (s .cut .1) ∙ ap (λ (t : Triangle). s .parts * t .block) (sym (c .falling-line .ensures)),
       length-take-le (s .memory) (c .args .memory .now) (omega arith) ∙ s .remembers ∙ ap memoryOf (sym (c .falling-line .ensures)),
       clock-below s (c .args .calls) (c .pre .3),
@@ -26,5 +25,5 @@ returns c =
     let s = c .args .setting .now in
     gathered-word s (c .args .calls * s .parts) (c .args .memory .now) (c .args .line .now) (c .pre .0) (c .falling-line .result)
     (c .copy-from-slice .last .self) (c .pass-word .last .word) (c .pass-word .last .memory) (c .falling-line .ensures) (c .copy-from-slice .ensures .after)
-    (c .in-Continue-pass-word .ensures tt) (c .kept .result) (c .exchange .last .gathered) (c .exchange .last .word)
-    (omega arith) (omega arith) (c .kept .ensures .value) (c .exchange .ensures .completes) (c .exchange .ensures .gathers)
+    (c .in-Continue-pass-word .ensures tt) (c .complete .last .gathered) (c .complete .last .word)
+    (omega arith) (omega arith) (c .complete .ensures .completes) (c .complete .ensures .gathers)

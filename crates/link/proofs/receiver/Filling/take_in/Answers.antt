@@ -18,6 +18,8 @@ add-self c =
     search needs
 
 pub returns : need.returns
-returns c =
-    (refl, filled-word (c .args .self .now) (c .args .memory .now) (c .next-word .last .memory) (c .args .line .now) (c .next-word .last .word)
-    (c .pre .0) (c .in-Continue-next-word .ensures tt))
+returns c = (
+  refl,
+  filled-word (c .args .self .now) (c .args .memory .now) (c .next-word .last .memory) (c .args .line .now) (c .next-word .last .word)
+      (c .pre .0) (c .in-Continue-next-word .ensures tt),
+)
