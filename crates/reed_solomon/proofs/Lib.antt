@@ -15,3 +15,5 @@ pub mod Elsewhere
 pub mod Adding
 pub mod OneMore
 pub mod Repairs
+pub mod Packing
+pub mod RowRegisters

@@ -5,3 +5,5 @@ pub mod Decoding
 pub mod Locating
 pub mod Roots
 pub mod Repairs
+pub mod Rows
+pub mod RowCoders

@@ -16,7 +16,7 @@ use crate::syndromes::syndromes;
 use coder::Undecoded;
 use field::Field;
 
-const MOST_CHECK: usize = 16;
+pub(crate) const MOST_CHECK: usize = 16;
 
 // Whether all octets are 0.
 fn is_zero(octets: &[u8]) -> bool
@@ -69,6 +69,25 @@ fn repair_spoilt<F: Field>(received: &[u8], difference: &[u8], message: &mut [u8
     )
 }
 
+// A received word of elements and its check difference.
+pub(crate) fn decode_difference<F: Field>(
+    received: &[u8],
+    difference: &[u8],
+    message: &mut [u8],
+) -> Option<usize>
+    requires { ⌜ (length (now difference) % 2 ≡ 0) × (length (now difference) ≤ 16) ⌝ }
+    requires { ⌜ length (now received) ≡ length (now message) + length (now difference) ⌝ }
+    requires { ⌜ length (now received) < F·Field .field .size ⌝ }
+    requires { ⌜ now difference ≡ checkDifference (F·Field .field) (length (now message)) (length (now difference)) (now received) ⌝ }
+    ensures { λ r. ⌜ (Elements (F·Field .field) (now (received .entry)) → Answered (F·Field .field) (length (now (message .entry))) (length (now (difference .entry))) (now (received .entry)) (now (message .entry)) (now (message .exit)) r) ⌝ }
+{
+    if is_zero(difference) {
+        message.copy_from_slice(&received[..message.len()]);
+        return Some(0);
+    }
+    repair_spoilt::<F>(received, difference, message)
+}
+
 // A received word of elements, with room for its check difference.
 fn decode_elements<F: Field>(
     received: &[u8],
@@ -83,11 +102,7 @@ fn decode_elements<F: Field>(
     ensures answer { λ r. ⌜ (Elements (F·Field .field) (now (received .entry)) → Answered (F·Field .field) (length (now (message .entry))) check (now (received .entry)) (now (message .entry)) (now (message .exit)) r) ⌝ }
 {
     check_difference::<F>(received, message.len(), difference);
-    if is_zero(difference) {
-        message.copy_from_slice(&received[..message.len()]);
-        return Some(0);
-    }
-    repair_spoilt::<F>(received, difference, message)
+    decode_difference::<F>(received, difference, message)
 }
 
 impl<F: Field> ReedSolomon<F> {

@@ -9,7 +9,7 @@ use crate::register::remainder;
 use field::Field;
 
 // Adds octets, place by place.
-fn add(sum: &mut [u8], octets: &[u8])
+pub(crate) fn add(sum: &mut [u8], octets: &[u8])
     requires { ⌜ length (now sum) ≡ length (now octets) ⌝ }
     ensures { λ _. ⌜ now (sum .exit) ≡ plus (now (sum .entry)) (now (octets .entry)) ⌝ }
 {

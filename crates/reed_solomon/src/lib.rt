@@ -11,12 +11,14 @@ mod places;
 pub mod reed_solomon;
 mod register;
 mod repair;
+pub mod rows;
 pub mod shifting;
 mod syndromes;
 pub mod table;
 mod values;
 
 pub use reed_solomon::ReedSolomon;
+pub use rows::row_coder::RowCoder;
 
 #[cfg(test)]
 mod tests;

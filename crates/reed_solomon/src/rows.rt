@@ -1,0 +1,8 @@
+// A Reed-Solomon coder over octets with one table row for each octet fed back.
+pub mod accepted;
+mod coding;
+mod decoding;
+mod filling;
+pub mod impl_coder;
+mod register;
+pub mod row_coder;
