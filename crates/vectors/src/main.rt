@@ -1,0 +1,12 @@
+// Runs test cases.
+use std::io;
+
+mod answer;
+mod coders;
+mod fault;
+mod fields;
+mod hex;
+
+fn main(rt: LibcRuntime) -> io::Result<()> {
+    rt.println("nothing yet")
+}
