@@ -1,9 +1,8 @@
 // Questions to the coders.
 use crate::answer::Answer;
+use crate::answer::AnswerPartialEq;
 use coder::Coder;
-use coder::Misfit;
 use coder::Refusal;
-use coder::Undecoded;
 use field::Shifting;
 use field::Table;
 use field::shifting::ShiftingField;
@@ -21,19 +20,10 @@ const FILLING: u8 = 0xa5;
 
 // A coder in one of its makes.
 #[derive(Clone, Copy)]
-pub enum Make {
+enum Make {
     Table,
     Shifting,
     Threefold,
-}
-
-// All makes of the coder that a number names.
-pub fn makes_of(coder: usize) -> Option<&'static [Make]> {
-    match coder {
-        0 => Some(&[Make::Table, Make::Shifting]),
-        1 => Some(&[Make::Threefold]),
-        _ => None,
-    }
 }
 
 #[derive(Drop)]
@@ -81,11 +71,42 @@ fn put<C: Coder + Drop>(heap: Global, coder: Result<C, Refusal>, question: &Ques
     }
 }
 
-// What the coder of these sizes answers, in the make that is asked for.
-pub fn ask(heap: Global, make: Make, frame: usize, check: usize, question: &Question) -> Result<Answer, AllocError> {
-    match make {
-        Make::Table => put(heap, ReedSolomon::<Table>::new(frame, check), question),
-        Make::Shifting => put(heap, ReedSolomon::<Shifting>::new(frame, check), question),
-        Make::Threefold => put(heap, Threefold::new(frame, check), question),
+// The coder that a line names.
+#[derive(Drop)]
+pub struct Named {
+    makes: &'static [Make],
+    // K and R
+    pub frame: usize,
+    check: usize,
+}
+
+impl Named {
+    pub fn new(coder: usize, frame: usize, check: usize) -> Option<Named> {
+        let makes: &'static [Make] = match coder {
+            0 => &[Make::Table, Make::Shifting],
+            1 => &[Make::Threefold],
+            _ => return None,
+        };
+        Some(Named { makes, frame, check })
+    }
+
+    fn ask(&self, heap: Global, make: Make, question: &Question) -> Result<Answer, AllocError> {
+        let (frame, check) = (self.frame, self.check);
+        match make {
+            Make::Table => put(heap, ReedSolomon::<Table>::new(frame, check), question),
+            Make::Shifting => put(heap, ReedSolomon::<Shifting>::new(frame, check), question),
+            Make::Threefold => put(heap, Threefold::new(frame, check), question),
+        }
+    }
+
+    // An answer other than the one said, if a make of the coder gives one.
+    pub fn other_answer(&self, heap: Global, question: &Question, said: &Answer) -> Result<Option<Answer>, AllocError> {
+        for make in self.makes {
+            let answer = self.ask(heap, *make, question)?;
+            if answer != *said {
+                return Ok(Some(answer));
+            }
+        }
+        Ok(None)
     }
 }
