@@ -3,6 +3,8 @@ pub mod accepted;
 mod coding;
 mod decoding;
 mod filling;
-pub mod impl_coder;
 mod register;
 pub mod row_coder;
+#[cfg(test)]
+mod tests;
+pub mod words;
