@@ -17,6 +17,7 @@ rounded a b some = go (cases-lt 0 (a % b))
   where
     split : a / b * b + a % b ≡ a
     split = div-add-mod' a b
+
     go : (0 < a % b) ⊎ (a % b ≤ 0) → (a ≤ roundedUp a b * b) × (roundedUp a b * b < a + b)
     go (inl left) =
         let up : roundedUp a b ≡ a / b + 1 = omega (arith, left) in

@@ -16,7 +16,7 @@ use Rattle.runs.specs.Theorem.{RidesOut}
 abbrev pub coderFits : Plan → Code → Result (Unit {0}) Misfit
 coderFits p c =
     cond (eqb (c .sizes .frame) (p .frame) && eqb (c .sizes .repairs) (p .repairs))
-      (cond (eqb (c .sizes .word) (p .word)) (Ok tt) (Err Line)) (Err Frame)
+    (cond (eqb (c .sizes .word) (p .word)) (Ok tt) (Err Line)) (Err Frame)
 
 -- the burst limit, with all that a pair of ends promises for whole runs
 abbrev pub Limits : Plan → Code → Result ℕ Misfit → Type 0

@@ -44,7 +44,12 @@ fn refused(number: u8, buffer: &[u8]) -> Answer {
     Answer::Number(number)
 }
 
-fn encoded<C: Coder>(heap: Global, coder: &C, message: &[u8], length: usize) -> Result<Answer, AllocError> {
+fn encoded<C: Coder>(
+    heap: Global,
+    coder: &C,
+    message: &[u8],
+    length: usize,
+) -> Result<Answer, AllocError> {
     let mut word = vec![in heap; FILLING; length]?;
     match coder.encode(message, word.as_mut_slice()) {
         Ok(()) => Ok(Answer::Word(word)),
@@ -52,7 +57,12 @@ fn encoded<C: Coder>(heap: Global, coder: &C, message: &[u8], length: usize) -> 
     }
 }
 
-fn decoded<C: Coder>(heap: Global, coder: &C, received: &[u8], length: usize) -> Result<Answer, AllocError> {
+fn decoded<C: Coder>(
+    heap: Global,
+    coder: &C,
+    received: &[u8],
+    length: usize,
+) -> Result<Answer, AllocError> {
     let mut message = vec![in heap; FILLING; length]?;
     match coder.decode(received, message.as_mut_slice()) {
         Ok(octets) => Ok(Answer::Repaired(octets, message)),
@@ -61,12 +71,21 @@ fn decoded<C: Coder>(heap: Global, coder: &C, received: &[u8], length: usize) ->
 }
 
 // The answer of a coder, where there is one.
-fn put<C: Coder + Drop>(heap: Global, coder: Result<C, Refusal>, question: &Question) -> Result<Answer, AllocError> {
+fn put<C: Coder + Drop>(
+    heap: Global,
+    coder: Result<C, Refusal>,
+    question: &Question,
+) -> Result<Answer, AllocError> {
     match coder {
         Err(refusal) => Ok(Answer::Number(refusal.number())),
         Ok(coder) => match question {
             Question::Encode(message, length) => encoded(heap, &coder, message.as_slice(), *length),
-            Question::Decode(received, length) => decoded(heap, &coder, received.as_slice(), *length),
+            Question::Decode(received, length) => decoded(
+                heap,
+                &coder,
+                received.as_slice(),
+                *length,
+            ),
         },
     }
 }
@@ -87,7 +106,11 @@ impl Named {
             1 => &[Make::Threefold],
             _ => return None,
         };
-        Some(Named { makes, frame, check })
+        Some(Named {
+            makes,
+            frame,
+            check,
+        })
     }
 
     fn ask(&self, heap: Global, make: Make, question: &Question) -> Result<Answer, AllocError> {
@@ -100,7 +123,12 @@ impl Named {
     }
 
     // An answer other than the one said, if a make of the coder gives one.
-    pub fn other_answer(&self, heap: Global, question: &Question, said: &Answer) -> Result<Option<Answer>, AllocError> {
+    pub fn other_answer(
+        &self,
+        heap: Global,
+        question: &Question,
+        said: &Answer,
+    ) -> Result<Option<Answer>, AllocError> {
         for make in self.makes {
             let answer = self.ask(heap, *make, question)?;
             if answer != *said {
