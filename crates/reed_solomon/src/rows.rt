@@ -5,6 +5,4 @@ mod decoding;
 mod filling;
 mod register;
 pub mod row_coder;
-#[cfg(test)]
-mod tests;
 pub mod words;

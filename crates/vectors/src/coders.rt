@@ -8,6 +8,8 @@ use field::Table;
 use field::shifting::ShiftingField;
 use field::table::TableField;
 use reed_solomon::ReedSolomon;
+use reed_solomon::RowCoder;
+use reed_solomon::rows::words::RowWords;
 use reed_solomon::shifting::ShiftingCoder;
 use reed_solomon::table::TableCoder;
 use std::alloc::AllocError;
@@ -23,6 +25,7 @@ const FILLING: u8 = 0xa5;
 enum Make {
     Table,
     Shifting,
+    Rows,
     Threefold,
 }
 
@@ -102,7 +105,7 @@ pub struct Named {
 impl Named {
     pub fn new(coder: usize, frame: usize, check: usize) -> Option<Named> {
         let makes: &'static [Make] = match coder {
-            0 => &[Make::Table, Make::Shifting],
+            0 => &[Make::Table, Make::Shifting, Make::Rows],
             1 => &[Make::Threefold],
             _ => return None,
         };
@@ -118,6 +121,7 @@ impl Named {
         match make {
             Make::Table => put(heap, ReedSolomon::<Table>::new(frame, check), question),
             Make::Shifting => put(heap, ReedSolomon::<Shifting>::new(frame, check), question),
+            Make::Rows => put(heap, RowCoder::new(frame, check), question),
             Make::Threefold => put(heap, Threefold::new(frame, check), question),
         }
     }
