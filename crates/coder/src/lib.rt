@@ -1,4 +1,6 @@
 // What every coder has in common: the sizes of its frames and words, what arrives for it, and the refusals with their numbers.
+#![tactic(auto)]
+
 pub mod accepted;
 pub mod arrival;
 pub mod coder;

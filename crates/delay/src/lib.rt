@@ -1,4 +1,6 @@
 // The delay line of a convolutional interleaver: a block's elements wait in branches of rising or of falling length.
+#![tactic(auto)]
+
 pub mod geometry;
 pub mod lengths;
 pub mod line;

@@ -1,4 +1,6 @@
 // Finite fields: what a field promises, and the octets as a field in two makes.
+#![tactic(auto)]
+
 pub mod agreement;
 pub mod field;
 pub mod horner;

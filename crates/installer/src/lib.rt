@@ -1,4 +1,6 @@
 // What an installer asks and reads: five octets name a setting, and a line of text says what the unit does with it.
+#![tactic(auto)]
+
 pub mod answer;
 pub mod report;
 pub mod text;

@@ -1,4 +1,6 @@
 // Reads a setting as five octets from standard input and prints what the line unit does with it.
+#![tactic(auto)]
+
 use installer::text::line;
 use std::io;
 use std::io::Read;

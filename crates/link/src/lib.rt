@@ -1,4 +1,6 @@
 // The two ends of the line: the calls that a host makes, and the burst limit that they keep.
+#![tactic(auto)]
+
 mod coding;
 pub mod draining;
 pub mod filling;

@@ -1,4 +1,6 @@
 // Reed-Solomon coders over any field.
+#![tactic(auto)]
+
 pub mod accepted;
 mod coding;
 mod decoding;

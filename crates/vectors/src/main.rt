@@ -1,4 +1,6 @@
 // Runs the test cases that standard input has, one to a line, and prints how many of each kind agreed.
+#![tactic(auto)]
+
 use anyhow::anyhow;
 use std::io::{BufRead, BufReader};
 use tally::Tally;
