@@ -20,7 +20,7 @@ loop-preserved c =
     let exponent : suc (m + m) ≡ 2 ^ (i + 1) - 1 = omega (arith, long, pow_pos i) in
     let square = ap₂ (reduced_times 8 29) c.loop.invariant.1 c.loop.invariant.1 ∙ power_add (raisable octets_generated) c.args.a m m in (
       omega (arith, c.loop-test.true),
-      c.shift-and-add-power.ensures ∙ ap (reduced_times 8 29 c.args.a) (c.shift-and-add.ensures ∙ square)
+      c.shift_and_add-power.ensures ∙ ap (reduced_times 8 29 c.args.a) (c.shift_and_add.ensures ∙ square)
           ∙ ap (raised (reduced_times 8 29) c.args.a) exponent,
     )
 
@@ -32,5 +32,5 @@ returns c =
     let last : i ≡ 7 = omega (arith, c.loop.invariant.0, c.loop-test.false) in
     let long : 2 ^ i ≡ 128 = ap (λ (x : ℕ). 2 ^ x) last in
     let exponent : m + m ≡ 254 = omega (arith, long) in
-    c.shift-and-add-2.ensures ∙ ap₂ (reduced_times 8 29) c.loop.invariant.1 c.loop.invariant.1
+    c.shift_and_add-2.ensures ∙ ap₂ (reduced_times 8 29) c.loop.invariant.1 c.loop.invariant.1
     ∙ power_add (raisable octets_generated) c.args.a m m ∙ ap (raised (reduced_times 8 29) c.args.a) exponent

@@ -12,5 +12,5 @@ unfolding raised
 loop-preserved c =
     let next : suc c.loop.counter ≡ c.loop.counter + 1 = omega arith in (
       omega (arith, c.loop-test.true),
-      c.shift-and-add-power.ensures ∙ ap (reduced_times 8 29 2) c.loop.invariant.1 ∙ ap (power octets) next,
+      c.shift_and_add-power.ensures ∙ ap (reduced_times 8 29 2) c.loop.invariant.1 ∙ ap (power octets) next,
     )

@@ -15,5 +15,5 @@ returns-then-a-eq0 c =
 
 pub returns : goal.returns
 returns c =
-    c.power-of.ensures ∙ sym (powers_add octets_generated c.logarithm.result c.logarithm-2.result)
+    c.power_of.ensures ∙ sym (powers_add octets_generated c.logarithm.result c.logarithm-2.result)
     ∙ ap₂ (reduced_times 8 29) c.logarithm.ensures.undone c.logarithm-2.ensures.undone

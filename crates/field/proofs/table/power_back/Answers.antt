@@ -16,7 +16,7 @@ unfolding raised
 returns c =
     let log : ℕ = c.logarithm.result in
     let whole : log + (255 - log) ≡ 255 + 0 = omega (arith, c.logarithm.ensures.below) in
-    let one : reduced_times 8 29 c.args.a c.power-of.result ≡ 1 =
-    ap₂ (reduced_times 8 29) (sym c.logarithm.ensures.undone) c.power-of.ensures ∙ powers_add octets_generated log (255 - log)
+    let one : reduced_times 8 29 c.args.a c.power_of.result ≡ 1 =
+    ap₂ (reduced_times 8 29) (sym c.logarithm.ensures.undone) c.power_of.ensures ∙ powers_add octets_generated log (255 - log)
     ∙ ap (power octets) whole ∙ powers_around octets_generated 0 in
-    inverse_unique octets octet_laws c.args.a c.power-of.result c.power-of.type-inv one
+    inverse_unique octets octet_laws c.args.a c.power_of.result c.power_of.type_inv one

@@ -6,12 +6,12 @@ returns c =
     let n = c.args.kept in
     let xs = c.args.word.now in
     let others = c.args.gathered.now in
-    let turned = c.rotate-right.new.self in
-    let front = c.swap-with-slice.new.self in
-    let back = c.swap-with-slice.new.other in
-    let turns = c.rotate-right.ensures.after in
-    let swaps = c.swap-with-slice.ensures in
+    let turned = c.rotate_right.new.self in
+    let front = c.swap_with_slice.new.self in
+    let back = c.swap_with_slice.new.other in
+    let turns = c.rotate_right.ensures.after in
+    let swaps = c.swap_with_slice.ensures in
     record {
-      completes = exchanged n xs others turned front back c.requires.0 turns swaps.after swaps.other_After;
-      gathers = exchanged_other n xs others turned front back c.requires.0 turns swaps.after swaps.other_After;
+      completes = exchanged n xs others turned front back c.requires.0 turns swaps.after swaps.other_after;
+      gathers = exchanged_other n xs others turned front back c.requires.0 turns swaps.after swaps.other_after;
     }

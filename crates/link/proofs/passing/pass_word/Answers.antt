@@ -6,15 +6,15 @@ use Rattle.link.proofs.passing.pass_word.Goals as goal
 pub loop-part-init : goal.loop-part-init
 loop-part-init g c = begin c.args.line.now c.args.clock c.args.memory.now c.args.word.now
 
-pub offset-bounds-word-start : goal.offset-bounds-word-start
-offset-bounds-word-start g c =
+pub offset_bounds-word-start : goal.offset_bounds-word-start
+offset_bounds-word-start g c =
     let I = c.args.line.now.block in
     let before : c.loop-part.part * I ≤ length c.loop-part.word
     = omega (arith, inside I c.loop-part.part c.args.parts (length c.loop-part.word) c.loop-part-test.true (omega arith)) in
     search rules
 
-pub slice-bounds-push-end : goal.slice-bounds-push-end
-slice-bounds-push-end g c =
+pub slice_bounds-push-end : goal.slice_bounds-push-end
+slice_bounds-push-end g c =
     let I = c.args.line.now.block in
     let within : c.loop-part.part * I + I ≤ length c.loop-part.word
     = inside I c.loop-part.part c.args.parts (length c.loop-part.word) c.loop-part-test.true (omega arith) in
@@ -28,7 +28,7 @@ loop-part-preserved g c =
     let within = inside t.block c.loop-part.part c.args.parts (length c.args.word.now) c.loop-part-test.true c.requires.0 in
     let pushed : Through _ t (c.args.clock + c.loop-part.part) c.loop-part.memory c.push.new.memory
     (take t.block (drop s c.loop-part.word)) c.push.new.block
-    = rw block-long at c.in-ok-push.ensures.2 in
+    = rw block-long at c.in_ok-push.ensures.2 in
     rw block-long (more t c.args.clock c.args.memory.now c.args.word.now c.loop-part.invariant within pushed)
 
 pub returns : goal.returns

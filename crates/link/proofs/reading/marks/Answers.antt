@@ -4,7 +4,7 @@ use Rattle.coder.specs.declared.arrival.Arrival.TheVariants.{Octet}
 use Rattle.runs.specs.Receivers.{marks_in}
 use Rattle.link.proofs.Marks.{marks_more, mark_of, no_marks}
 use Rattle.link.proofs.reading.marks.Goals as goal
-use Rattle.link.proofs.reading.marks.Goals.{in-Lost, in-default}
+use Rattle.link.proofs.reading.marks.Goals.{in-Lost, in_default}
 
 pub loop-arrival-preserved : goal.loop-arrival-preserved
 loop-arrival-preserved c =
@@ -12,7 +12,7 @@ loop-arrival-preserved c =
     let inv = c.loop-arrival.invariant.0 in
     elim c.match-arrival.branch [
       | in-Lost w ↦ (omega (arith, inv, more, ap mark_of w.in-Lost.is, w.marks-is), omega (arith, w.marks-is))
-      | in-default w ↦ (omega (arith, inv, more, ap mark_of w.in-default.is, w.marks-is), omega (arith, w.marks-is))
+      | in_default w ↦ (omega (arith, inv, more, ap mark_of w.in_default.is, w.marks-is), omega (arith, w.marks-is))
     ]
 
 pub returns : goal.returns

@@ -12,9 +12,9 @@ returns g c elements =
     let R : ℕ = length c.args.difference.now in
     let s = c.syndromes.new.out in
     let l = c.locator.new.locator in
-    let s-long : length s ≡ R = c.syndromes.auto.out ∙ c.requires.4.0 in
-    let l-long : length l ≡ R / 2 + 1 = c.locator.auto.locator ∙ c.requires.4.1 in
-    answered f g.met.F.Field.laws K R w s l c.requires.1 (omega (arith, c.requires.1, c.requires.2)) elements s-long l-long
-    (λ j h. c.syndromes.ensures.values j h ∙ ap (λ d. value_at f d (power f j)) c.requires.3)
+    let s-long : length s ≡ R = c.syndromes.auto.out ∙ c.requires.found_len.0 in
+    let l-long : length l ≡ R / 2 + 1 = c.locator.auto.locator ∙ c.requires.found_len.1 in
+    answered f g.met.F.Field.laws K R w s l c.requires.received_len (omega (arith, c.requires.received_len, c.requires.received_len_bound)) elements s-long l-long
+    (λ j h. c.syndromes.ensures.values j h ∙ ap (λ d. value_at f d (power f j)) c.requires.difference_value)
     c.args.message.now c.repair.new.message c.repair.result mathlib.Core.Path.refl c.locator.ensures.elements
     (λ j h. c.locator.ensures.killed j (omega (arith, h, l-long))) c.repair.ensures

@@ -8,5 +8,5 @@ pub returns : goal.returns
 unfolding check_difference
 returns g c = record {
   value = c.add.ensures ∙ ap₂ plus c.remainder.ensures.check (take_rest c.args.received.now c.args.frame);
-  octets = λ k. (c.type-inv.received k).fits;
+  octets = λ k. (c.type_inv.received k).fits;
 }

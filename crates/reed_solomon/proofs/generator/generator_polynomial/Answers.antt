@@ -7,8 +7,8 @@ pub loop-i-init : goal.loop-i-init
 unfolding generator
 loop-i-init g c = (omega arith, refl)
 
-pub slice-bounds-add-root-end : goal.slice-bounds-add-root-end
-slice-bounds-add-root-end g c =
+pub slice_bounds-add_root-end : goal.slice_bounds-add_root-end
+slice_bounds-add_root-end g c =
     let inv = c.loop-i.invariant in
     sym (ap length inv.1 ∙ room_for g.F.Field.field g.met.F.Field.laws 16 c.loop-i.i inv.0)
 
@@ -17,8 +17,8 @@ loop-i-preserved g c =
     let f = g.F.Field.field in
     let i : ℕ = c.loop-i.i in (
       omega (arith, c.requires),
-      next_root f g.met.F.Field.laws 16 i c.loop-i.polynomial c.add-root.new.polynomial (omega (arith, c.requires)) c.loop-i.invariant.1
-          (λ p r e is. c.add-root.ensures p r e is ∙ ap (λ a. product f p (1 ∷ a ∷ []) ++ zeros r) c.root.ensures),
+      next_root f g.met.F.Field.laws 16 i c.loop-i.polynomial c.add_root.new.polynomial (omega (arith, c.requires)) c.loop-i.invariant.1
+          (λ p r e is. c.add_root.ensures p r e is ∙ ap (λ a. product f p (1 ∷ a ∷ []) ++ zeros r) c.root.ensures),
     )
 
 pub returns : goal.returns

@@ -14,4 +14,4 @@ returns g c =
     let one : v.kept ≡ 1 = omega arith in
     let all : v.width ≡ c.loop-equation.equation + 1 = omega arith in
     let P : List ℕ → Type 0 = λ l. Locating g.F.Field.field (held c.args.syndromes.now) l in
-    subst P (sym c.copy-first.ensures) (found g.F.Field.field g.met.F.Field.laws {R = vector v} c.loop-equation.invariant.2 one all)
+    subst P (sym c.copy_first.ensures) (found g.F.Field.field g.met.F.Field.laws {R = vector v} c.loop-equation.invariant.2 one all)

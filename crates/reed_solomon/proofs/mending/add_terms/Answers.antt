@@ -10,8 +10,8 @@ pub loop-i-init : goal.loop-i-init
 unfolding terms_at
 loop-i-init g c j h = c.requires.clear j
 
-pub overflow-sub-word : goal.overflow-sub-word
-overflow-sub-word g c = omega (arith, c.requires.inside c.loop-i.i c.loop-i-test.true)
+pub overflow_sub-word : goal.overflow_sub-word
+overflow_sub-word g c = omega (arith, c.requires.inside c.loop-i.i c.loop-i-test.true)
 
 pub loop-i-preserved : goal.loop-i-preserved
 loop-i-preserved g c j h =
@@ -20,7 +20,7 @@ loop-i-preserved g c j h =
     let ws = c.args.places.now in
     let vs = c.args.values.now in
     let i = c.loop-i.i in
-    c.add-term.ensures j (omega arith)
+    c.add_term.ensures j (omega arith)
     ∙ ap₂ (λ a x. bit_xor a (f.times (get_or vs i 0) (raised f.times x j))) (c.loop-i.invariant j h) c.power-locator.ensures
     ∙ sym (terms_next f g.met.F.Field.laws N ws vs i j c.requires.alike c.loop-i-test.true)
 

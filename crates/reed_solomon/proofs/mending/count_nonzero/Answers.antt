@@ -9,8 +9,8 @@ pub loop-value-init : goal.loop-value-init
 unfolding weight
 loop-value-init c = refl
 
-pub overflow-add-count : goal.overflow-add-count
-overflow-add-count c =
+pub overflow_add-count : goal.overflow_add-count
+overflow_add-count c =
     let few = weight_before c.args.values.now c.loop-value.value-index c.loop-value-test.true in
     omega (arith, few, c.loop-value.invariant)
 

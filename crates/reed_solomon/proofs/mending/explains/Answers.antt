@@ -3,8 +3,8 @@ use Rattle.std.proofs.lemmas.List.{take-replicate}
 use Rattle.rs_algebra.proofs.Lists.{zeros_read}
 use Rattle.reed_solomon.proofs.mending.explains.Goals as goal
 
-pub add-terms-requires : goal.add-terms-requires
-add-terms-requires g c =
+pub add_terms-requires : goal.add_terms-requires
+add_terms-requires g c =
     let n = length c.args.syndromes.now in
     record {
       fits = c.requires.fits;

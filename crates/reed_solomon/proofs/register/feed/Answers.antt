@@ -5,11 +5,11 @@ use Rattle.std.proofs.lemmas.Bool.{eqb-true}
 use Rattle.reed_solomon.proofs.Registers.{lower_long, begin, more, end, nothing}
 use Rattle.reed_solomon.proofs.register.feed.Goals as goal
 
-pub returns-then-is-empty : goal.returns-then-is-empty
-returns-then-is-empty g c =
+pub returns-then-is_empty : goal.returns-then-is_empty
+returns-then-is_empty g c =
     let reg = c.args.register.now in
     nothing g.F.Field.field g.met.F.Field.laws (take (length reg + 1) c.args.polynomial.now) reg c.args.octet
-    (lower_long c.args.polynomial.now (length reg) (omega arith)) (eqb-true (length reg) 0 (sym c.if-is-empty.ensures))
+    (lower_long c.args.polynomial.now (length reg) (omega arith)) (eqb-true (length reg) 0 (sym c.if-is_empty.ensures))
 
 pub loop-k-init : goal.loop-k-init
 loop-k-init g c =

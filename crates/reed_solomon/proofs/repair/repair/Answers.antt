@@ -3,16 +3,16 @@ use Rattle.reed_solomon.proofs.repair.repair.Goals as goal
 
 pub returns : goal.returns
 returns g c =
-    let ws = take c.root-places-count.result c.root-places-count.new.places in
-    let vs = c.repair-at.new.values in (
+    let ws = take c.root_places-count.result c.root_places-count.new.places in
+    let vs = c.repair_at.new.values in (
       ws,
       vs,
       record {
-        alike = c.repair-at.ensures.alike;
-        few = omega (arith, c.root-places-count.ensures.few, c.root-places-count.ensures.long);
-        roots = c.root-places-count.ensures.roots;
-        values = c.repair-at.ensures.values;
-        elements = c.repair-at.ensures.elements;
+        alike = c.repair_at.ensures.alike;
+        few = omega (arith, c.root_places-count.ensures.few, c.root_places-count.ensures.long);
+        roots = c.root_places-count.ensures.roots;
+        values = c.repair_at.ensures.values;
+        elements = c.repair_at.ensures.elements;
       },
-      c.repair-at.ensures.answer,
+      c.repair_at.ensures.answer,
     )

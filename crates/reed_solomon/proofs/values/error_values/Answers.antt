@@ -10,8 +10,8 @@ loop-i-preserved g c =
     let f = g.F.Field.field in
     let ws = c.args.places.now in
     let S : ℕ → ℕ = λ j. get_or c.args.syndromes.now j 0 in
-    filled_more (λ i value. ValueFor f c.args.word S ws (get_or ws i 0) value) c.loop-i.values c.loop-i.i c.value-for.result
-    (omega (arith, c.requires.alike)) c.loop-i.invariant c.value-for.ensures
+    filled_more (λ i value. ValueFor f c.args.word S ws (get_or ws i 0) value) c.loop-i.values c.loop-i.i c.value_for.result
+    (omega (arith, c.requires.alike)) c.loop-i.invariant c.value_for.ensures
 
 pub returns : goal.returns
 returns g c =

@@ -9,8 +9,8 @@ pub loop-other-init : goal.loop-other-init
 loop-other-init g c =
     (omega arith, missing_first g.F.Field.field g.met.F.Field.laws c.args.word c.args.place c.args.polynomial.now (omega (arith, c.requires.room)))
 
-pub times-root-requires : goal.times-root-requires
-times-root-requires g c = omega (arith, c.loop-other.invariant.0, c.requires.room, length-set c.args.polynomial.now 0 1)
+pub times_root-requires : goal.times_root-requires
+times_root-requires g c = omega (arith, c.loop-other.invariant.0, c.requires.room, length-set c.args.polynomial.now 0 1)
 
 pub loop-other-preserved : goal.loop-other-preserved
 loop-other-preserved g c =
@@ -27,7 +27,7 @@ loop-other-preserved g c =
         omega (arith, w.used-is, c.loop-other.invariant.0),
         missing_next f laws N k ws v i c.loop-other-test.true c.loop-other.invariant.1 c.requires.fits c.requires.here inside w.if-other-place.true
             w.power-locator.result (take c.if-other-place.used c.if-other-place.polynomial) w.power-locator.ensures
-            (rw (w.used-is, w.polynomial-is) w.times-root.ensures),
+            (rw (w.used-is, w.polynomial-is) w.times_root.ensures),
       )
       | else-other-place w ↦ (
         omega (arith, w.used-is, c.loop-other.invariant.0),

@@ -2,8 +2,8 @@ use Rattle.std.proofs.Common.{◌+◌, refl, arith}
 use Rattle.link.proofs.Interleavers.{entered_below}
 use Rattle.link.proofs.sender.Draining.entered.Goals as goal
 
-pub overflow-add-result : goal.overflow-add-result
-overflow-add-result c =
+pub overflow_add-result : goal.overflow_add-result
+overflow_add-result c =
     let s = c.args.self.now in
     record { fits = omega (arith, entered_below s.setting s.words s.drained s.count s.drains) }
 

@@ -6,14 +6,14 @@ pub returns-in-Some : goal.returns-in-Some
 returns-in-Some g c =
     let s = c.args.self.now in
     let whole : length c.args.received.now ≡ s.sizes.frame + s.check = omega arith in
-    found g.F.Field.field g.met.F.Field.laws s.sizes.frame s.check c.args.received.now c.requires.0
-    c.args.message.now c.requires.1.0 whole c.in-Some.ensures.octets
-    c.decode-elements.new.message c.in-Some.repaired c.in-Some.ensures.answer
+    found g.F.Field.field g.met.F.Field.laws s.sizes.frame s.check c.args.received.now c.requires.value
+    c.args.message.now c.requires.message_len.0 whole c.in-Some.ensures.octets
+    c.decode_elements.new.message c.in-Some.repaired c.in-Some.ensures.answer
 
 pub returns-in-None : goal.returns-in-None
 returns-in-None g c =
     let s = c.args.self.now in
     let whole : length c.args.received.now ≡ s.sizes.frame + s.check = omega arith in
-    lost g.F.Field.field g.met.F.Field.laws s.sizes.frame s.check c.args.received.now c.requires.0
-    c.args.message.now c.requires.1.0 whole c.in-None.ensures.octets
-    c.decode-elements.new.message c.in-None.ensures.answer
+    lost g.F.Field.field g.met.F.Field.laws s.sizes.frame s.check c.args.received.now c.requires.value
+    c.args.message.now c.requires.message_len.0 whole c.in-None.ensures.octets
+    c.decode_elements.new.message c.in-None.ensures.answer

@@ -10,7 +10,7 @@ returns g c =
     record {
       sizes = refl;
       words = (
-        ap (λ K. rs_code f K c.args.check) c.requires.0.0,
+        ap (λ K. rs_code f K c.args.check) c.requires.frame_value.0,
         checked_words f g.met.F.Field.laws c.args.frame c.args.check,
         word_samples,
         decoding_samples,

@@ -13,11 +13,11 @@ pub loop-factor-preserved : goal.loop-factor-preserved
 loop-factor-preserved c =
     let all = c.loop-factor.invariant.0 in (
       length-set c.loop-factor.rows c.loop-factor.factor c.row.result ∙ all,
-      filled_more c.args.check c.generator-polynomial-polynomial.result c.loop-factor.rows c.loop-factor.factor c.row.result
+      filled_more c.args.check c.generator_polynomial-polynomial.result c.loop-factor.rows c.loop-factor.factor c.row.result
           (omega arith) c.loop-factor.invariant.1 c.row.ensures,
     )
 
 pub returns : goal.returns
 returns c f h =
     c.loop-factor.invariant.1 f (omega arith)
-    ∙ ap (λ g. packed 16 (scaled octets f (drop 1 g))) c.generator-polynomial-polynomial.ensures
+    ∙ ap (λ g. packed 16 (scaled octets f (drop 1 g))) c.generator_polynomial-polynomial.ensures

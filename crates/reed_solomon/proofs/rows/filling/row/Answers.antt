@@ -10,7 +10,7 @@ loop-k-init c =
 pub loop-k-preserved : goal.loop-k-preserved
 loop-k-preserved c =
     let p = c.args.polynomial.now in
-    c.put-on-top-row.ensures ∙ ap (λ x. x * 2 ^ 120 + c.loop-k.row / 256) c.times.ensures
+    c.put_on_top-row.ensures ∙ ap (λ x. x * 2 ^ 120 + c.loop-k.row / 256) c.times.ensures
     ∙ one_packed c.args.factor c.args.check p (lower_long p c.args.check (omega arith))
     c.loop-k.k c.loop-k.row c.loop-k-test.true c.loop-k.auto.k c.loop-k.invariant
 

@@ -16,9 +16,9 @@ loop-octet-preserved c =
     let l : i < length now = omega arith in
     let small : get_or now i 0 < 256 = omega arith in
     let one = taken_one s (get_or now i 0) c.mixed.result small c.mixed.ensures in
-    turn descrambling (earlier_bits c.args.self.now) (earlier_bits s) (earlier_bits c.followed-by.result) c.args.octets.now now i
+    turn descrambling (earlier_bits c.args.self.now) (earlier_bits s) (earlier_bits c.followed_by.result) c.args.octets.now now i
     c.mixed.result c.loop-octet.invariant l (held-bits s) small one
-    (gone_on s c.followed-by.result (get_or now i 0) c.followed-by.ensures)
+    (gone_on s c.followed_by.result (get_or now i 0) c.followed_by.ensures)
 
 pub returns : goal.returns
 returns c =

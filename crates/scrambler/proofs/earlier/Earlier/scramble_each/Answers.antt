@@ -17,9 +17,9 @@ loop-octet-preserved c =
     let l : i < length now = omega arith in
     let small : get_or now i 0 < 256 = omega arith in
     let one = sent_one s (get_or now i 0) c.mixed.result small c.mixed.ensures in
-    turn scrambling (earlier_bits c.args.self.now) (earlier_bits s) (earlier_bits c.followed-by.result) c.args.octets.now now i
+    turn scrambling (earlier_bits c.args.self.now) (earlier_bits s) (earlier_bits c.followed_by.result) c.args.octets.now now i
     c.mixed.result c.loop-octet.invariant l (held-bits s) small one
-    (gone_on s c.followed-by.result c.mixed.result c.followed-by.ensures ∙ ap (after (earlier_bits s)) (sym one))
+    (gone_on s c.followed_by.result c.mixed.result c.followed_by.ensures ∙ ap (after (earlier_bits s)) (sym one))
 
 pub returns : goal.returns
 returns c =

@@ -14,9 +14,9 @@ loop-place-preserved c =
     let s = c.args.self.now in
     let r = c.args.received.now in
     let more = odd_more s.sizes.frame r (thirds s r c.requires) c.loop-place.place c.loop-place-test.true in
-    (omega (arith, c.loop-place.invariant.0, c.odd-octets-faults.ensures.value, more), omega (arith, c.loop-place.invariant.1, c.odd-octets-faults.ensures.bound))
+    (omega (arith, c.loop-place.invariant.0, c.odd_octets-faults.ensures.value, more), omega (arith, c.loop-place.invariant.1, c.odd_octets-faults.ensures.bound))
 
 pub returns : goal.returns
 returns c =
     judged c.args.self.now c.args.received.now c.requires c.loop-place.faults c.loop-place.place
-    (λ i. (c.type-inv.received i).fits) (omega arith) c.loop-place.invariant.0
+    (λ i. (c.type_inv.received i).fits) (omega arith) c.loop-place.invariant.0

@@ -9,7 +9,7 @@ loop-place-preserved c =
     let f = voted_at c.args.self.now.sizes.frame c.args.received.now in
     let within : c.loop-place.place < length c.loop-place.message = omega arith in
     let more = fill_by_more f c.loop-place.message c.loop-place.place 0 within c.loop-place.invariant in
-    λ k h. ap (λ x. get_or (set c.loop-place.message c.loop-place.place x) k 0) c.voted-octet.ensures ∙ more k h
+    λ k h. ap (λ x. get_or (set c.loop-place.message c.loop-place.place x) k 0) c.voted_octet.ensures ∙ more k h
 
 pub returns : goal.returns
 unfolding voted

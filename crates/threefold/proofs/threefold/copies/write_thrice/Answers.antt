@@ -4,4 +4,4 @@ use Rattle.threefold.proofs.threefold.copies.write_thrice.Goals as goal
 pub returns : goal.returns
 returns c =
     let written = three_copies c.args.message.now c.args.word.now c.requires in
-    simp (c.copy-from-slice.ensures.after, c.copy-from-slice-2.ensures.after, c.copy-from-slice-3.ensures.after) written
+    simp (c.copy_from_slice.ensures.after, c.copy_from_slice-2.ensures.after, c.copy_from_slice-3.ensures.after) written

@@ -9,16 +9,16 @@ loop-i-init g c =
     let v = c.args.self.now in
     (refl, refl, begun g.F.Field.field (held c.args.syndromes.now) c.args.equation v.width c.args.pivot.now c.args.from v.rows)
 
-pub slice-bounds-row-end : goal.slice-bounds-row-end
-slice-bounds-row-end g c =
+pub slice_bounds-row-end : goal.slice_bounds-row-end
+slice_bounds-row-end g c =
     row_long c.args.self.now.width (get_or c.loop-i.self.rows c.loop-i.i [])
     (still_long c.loop-i.invariant.2 c.requires.long c.loop-i-test.true)
 
-pub slice-bounds-add-multiple-end : goal.slice-bounds-add-multiple-end
-slice-bounds-add-multiple-end g c = sym (still_long c.loop-i.invariant.2 c.requires.long c.loop-i-test.true)
+pub slice_bounds-add_multiple-end : goal.slice_bounds-add_multiple-end
+slice_bounds-add_multiple-end g c = sym (still_long c.loop-i.invariant.2 c.requires.long c.loop-i-test.true)
 
-pub add-multiple-requires : goal.add-multiple-requires
-add-multiple-requires g c = still_long c.loop-i.invariant.2 c.requires.long c.loop-i-test.true ∙ sym c.requires.wide
+pub add_multiple-requires : goal.add_multiple-requires
+add_multiple-requires g c = still_long c.loop-i.invariant.2 c.requires.long c.loop-i-test.true ∙ sym c.requires.wide
 
 pub loop-i-preserved : goal.loop-i-preserved
 loop-i-preserved g c =
@@ -30,9 +30,9 @@ loop-i-preserved g c =
     let i = c.loop-i.i in (
       c.loop-i.invariant.0,
       c.loop-i.invariant.1,
-      more c.add-multiple.new.row c.loop-i.invariant.2 c.loop-i.auto.i (omega arith) c.add-multiple.auto.row
-          (made_clear f S j c.args.pivot.now (front c.args.self.now.width rows i) c.add-multiple.ensures c.times-factor.ensures
-          (c.value-of.ensures ∙ ap (λ w. weighed f (front w rows i) S j) c.loop-i.invariant.0) c.inverse-inverse.ensures c.value.ensures),
+      more c.add_multiple.new.row c.loop-i.invariant.2 c.loop-i.auto.i (omega arith) c.add_multiple.auto.row
+          (made_clear f S j c.args.pivot.now (front c.args.self.now.width rows i) c.add_multiple.ensures c.times-factor.ensures
+          (c.value_of.ensures ∙ ap (λ w. weighed f (front w rows i) S j) c.loop-i.invariant.0) c.inverse-inverse.ensures c.value.ensures),
     )
 
 pub returns : goal.returns

@@ -4,10 +4,10 @@ use Rattle.reed_solomon.specs.Locating.{Solutions, front, held, vector}
 use Rattle.reed_solomon.proofs.Clearing.{front_else, front-moved, long_moved, row_long}
 use Rattle.reed_solomon.proofs.Elimination.{all_meet, pivoted}
 use Rattle.reed_solomon.proofs.locator.vectors.Vectors.meet.Goals as goal
-use Rattle.reed_solomon.proofs.locator.vectors.Vectors.meet.Goals.{in-Some, in-default}
+use Rattle.reed_solomon.proofs.locator.vectors.Vectors.meet.Goals.{in-Some, in_default}
 
-pub slice-bounds-pivot-end : goal.slice-bounds-pivot-end
-slice-bounds-pivot-end g c =
+pub slice_bounds-pivot-end : goal.slice_bounds-pivot-end
+slice_bounds-pivot-end g c =
     let p = c.in-Some.p in
     row_long c.args.self.now.width (get_or c.args.self.now.rows p []) (c.requires.met.long p c.in-Some.ensures.0)
 
@@ -50,10 +50,10 @@ returns g c =
             kept = omega arith;
             met = subst P (sym w.self-is) (subst (λ n. Met n (vector next)) (sym w.eliminate.ensures.width) solved);
           }
-      | in-default w ↦
+      | in_default w ↦
           record {
             width = ap (λ (x : Vectors). x.width) w.self-is;
             kept = omega arith;
-            met = subst P (sym w.self-is) (all_meet f laws c.requires.met fewer w.in-default.ensures);
+            met = subst P (sym w.self-is) (all_meet f laws c.requires.met fewer w.in_default.ensures);
           }
     ]

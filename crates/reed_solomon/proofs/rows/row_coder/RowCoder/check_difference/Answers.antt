@@ -7,6 +7,6 @@ use Rattle.reed_solomon.proofs.rows.row_coder.RowCoder.check_difference.Goals as
 pub returns : goal.returns
 unfolding check_difference
 returns c = record {
-  value = c.add.ensures ∙ ap₂ plus c.check-octets.ensures.check (take_rest c.args.received.now c.args.frame);
-  octets = λ k. (c.type-inv.received k).fits;
+  value = c.add.ensures ∙ ap₂ plus c.check_octets.ensures.check (take_rest c.args.received.now c.args.frame);
+  octets = λ k. (c.type_inv.received k).fits;
 }

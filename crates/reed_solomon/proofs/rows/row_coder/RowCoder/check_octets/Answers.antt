@@ -9,11 +9,11 @@ pub returns : goal.returns
 returns c =
     let R : ℕ = c.args.self.now.plain.check in
     let m = c.args.message.now in
-    let o = c.register-of.ensures.octets in
+    let o = c.register_of.ensures.octets in
     record {
       check =
           c.unpack.ensures (check_of octets R m) (check_elements octets octet_laws R m o) (omega (arith, check_long octets octet_laws R m))
-          (check_long octets octet_laws R m ∙ sym c.requires) c.register-of.ensures.check
+          (check_long octets octet_laws R m ∙ sym c.requires) c.register_of.ensures.check
           ∙ ap (λ n. check_of octets n m) (sym c.requires);
       octets = o;
     }

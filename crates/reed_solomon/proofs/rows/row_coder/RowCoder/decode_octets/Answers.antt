@@ -10,7 +10,7 @@ returns-in-Some c =
     let whole : length c.args.received.now ≡ s.sizes.frame + s.check = omega (arith, s.word) in
     found octets octet_laws s.sizes.frame s.check c.args.received.now refl
     c.args.message.now c.requires.0 whole c.in-Some.ensures.octets
-    c.decode-with.new.message c.in-Some.repaired c.in-Some.ensures.answer
+    c.decode_with.new.message c.in-Some.repaired c.in-Some.ensures.answer
 
 pub returns-in-None : goal.returns-in-None
 returns-in-None c =
@@ -18,4 +18,4 @@ returns-in-None c =
     let whole : length c.args.received.now ≡ s.sizes.frame + s.check = omega (arith, s.word) in
     lost octets octet_laws s.sizes.frame s.check c.args.received.now refl
     c.args.message.now c.requires.0 whole c.in-None.ensures.octets
-    c.decode-with.new.message c.in-None.ensures.answer
+    c.decode_with.new.message c.in-None.ensures.answer

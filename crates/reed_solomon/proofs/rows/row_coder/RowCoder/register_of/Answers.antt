@@ -17,5 +17,5 @@ loop-octet-preserved c =
 pub returns : goal.returns
 returns c = record {
   check = c.loop-octet.invariant ∙ ap (packed 16) (after_all c.args.self.now.plain.check c.args.message.now c.loop-octet.octet-index c.loop-octet-test.false);
-  octets = λ k. (c.type-inv.message k).fits;
+  octets = λ k. (c.type_inv.message k).fits;
 }
