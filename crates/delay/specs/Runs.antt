@@ -1,6 +1,6 @@
 -- Whole runs: blocks pushed one after another, and when each comes out again. Assumes nothing.
 use Rattle.std.specs.Prelude.{◌≡◌, ℕ, ◌-◌, ◌<◌, cond, List, [], ◌∷◌, length, get_or, replicate, nat_lt, slice_index_or}
-use Rattle.std.specs.List.{AllByRecursion as All}
+use Rattle.std.specs.List.{AllByRecursion}
 use Rattle.delay.specs.declared.triangle.Triangle.{Triangle}
 use Rattle.delay.specs.Queues.{Bank, leaving, staying}
 use Rattle.delay.specs.Triangles.{rising, falling, wait_of, Cleared}
@@ -17,7 +17,7 @@ rest bank (b ∷ bs) = rest (staying bank b) bs
 
 -- each block has I elements
 abbrev pub Blocks : {E : Type 0} → ℕ → List (List E) → Type 0
-Blocks I bs = All (λ b. length b ≡ I) bs
+Blocks I bs = AllByRecursion (λ b. length b ≡ I) bs
 
 -- element j of block u; x where there is none
 abbrev pub element : {E : Type 0} → List (List E) → (u j : ℕ) → E → E

@@ -1,6 +1,6 @@
 -- The words of frames in a row. Assumes nothing.
 use Rattle.std.proofs.Common.{◌≡◌, ℕ, zero, suc, ◌<◌, ◌≤◌, Bool, ◌⊎◌, List, [], ◌∷◌, ◌++◌, length, get_or, sym, refl, ◌∙◌, ap₂, inl, inr, arith}
-use Rattle.std.specs.List.{AllByRecursion as All}
+use Rattle.std.specs.List.{AllByRecursion}
 use Rattle.std.proofs.ByRecursion.{All-get_or}
 use Rattle.std.proofs.lemmas.List.{get_or_append_left, get_or_past, get_or_push}
 use Rattle.std.proofs.lemmas.Bool.{cases_lt}
@@ -11,7 +11,7 @@ use Rattle.scrambler.proofs.Scrambling.{length-scrambled, scrambled-octets}
 use Rattle.runs.specs.Theorem.{earlier_at, frame_at, word_at}
 use Rattle.runs.proofs.Settled.{Fits}
 
-pub octets_at : (xs : List ℕ) → All (λ m. m < 256) xs → Octets xs
+pub octets_at : (xs : List ℕ) → AllByRecursion (λ m. m < 256) xs → Octets xs
 octets_at xs h k = go (cases_lt k (length xs))
   where
     go : (k < length xs) ⊎ (length xs ≤ k) → get_or xs k 0 < 256

@@ -1,6 +1,6 @@
 -- Octets as bits, the least significant first. Assumes nothing.
 use Rattle.std.specs.Prelude.{ℕ, zero, suc, ◌+◌, ◌*◌, ◌/◌, ◌%◌, ◌<◌, Bool, true, false, cond, not, List, [], ◌∷◌, ◌++◌, take, drop, ◌==◌}
-use Rattle.std.specs.List.{AllByRecursion as All}
+use Rattle.std.specs.List.{AllByRecursion}
 
 -- the sum of two bits modulo 2
 infixl 65 ◌⊕◌
@@ -30,4 +30,4 @@ octets_of (suc n) bs = number_of (take 8 bs) ∷ octets_of n (drop 8 bs)
 
 -- each number of a list is an octet
 abbrev pub Octets : List ℕ → Type 0
-Octets ms = All (λ m. m < 256) ms
+Octets ms = AllByRecursion (λ m. m < 256) ms
