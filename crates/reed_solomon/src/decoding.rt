@@ -105,6 +105,7 @@ fn decode_elements<F: Field>(
 
 impl<F: Field> ReedSolomon<F> {
     // A received word of octets, where all octets are elements.
+    #[tactic(auto, using(crate::proofs::Nearness::found, crate::proofs::Nearness::lost))]
     pub(crate) fn decode_octets(
         &self,
         received: &[u8],
