@@ -1,8 +1,8 @@
 -- What a coder means: its sizes, the word of each message, and what decoding answers. Assumes nothing.
-use Rattle.std.specs.Prelude.{◌≡◌, ℕ, ◌+◌, ◌*◌, ◌<◌, ◌≤◌, Bool, cond, ◌&&◌, ◌≢◌, List, [], ◌∷◌, length, Ok, Err, Result, ◌==◌, slice_index}
-use Prim.{Unit, ⊥, tt}
+use Rattle.std.specs.Prelude.{◌≡◌, ℕ, ◌+◌, ◌*◌, ◌<◌, ◌≤◌, cond, ◌&&◌, ◌≢◌, List, [], ◌∷◌, length, Ok, Err, Result, ◌==◌, slice_index}
+use Prim.{Unit, tt}
 use Rattle.coder.specs.declared.misfit.Misfit.{Misfit}
-use Rattle.coder.specs.declared.misfit.Misfit.TheVariants.{Frame, Line, Memory}
+use Rattle.coder.specs.declared.misfit.Misfit.TheVariants.{Frame, Line}
 use Rattle.coder.specs.declared.undecoded.Undecoded.{Undecoded}
 use Rattle.coder.specs.declared.undecoded.Undecoded.TheVariants.{Unfit, Lost}
 use Rattle.coder.specs.Sizes.{Parameters}

@@ -1,13 +1,12 @@
 -- Powers and logarithms: a test computed over their whole tables makes a reduced product a field. Assumes nothing.
-use Rattle.std.specs.Prelude.{◌≡◌, ℕ, zero, suc, ◌+◌, ◌-◌, ◌*◌, ◌%◌, ◌^◌, ◌<◌, ◌≤◌, Bool, true, false, cond, ◌&&◌, ◌⊎◌, List, [], ◌∷◌, map, length, drop, ◌==◌, nat_lt, slice_index, slice_index_or}
+use Rattle.std.specs.Prelude.{◌≡◌, ℕ, zero, suc, ◌+◌, ◌-◌, ◌%◌, ◌^◌, ◌<◌, ◌≤◌, Bool, true, cond, ◌&&◌, List, [], ◌∷◌, map, length, drop, ◌==◌, nat_lt, slice_index, slice_index_or}
 use Rattle.std.proofs.Math.Path.{refl, sym, ap}
-use Rattle.std.proofs.Common.{ap₂, ◌∙◌, inl, inr, arith, mod-eq_of_lt, pow_mono}
-use Rattle.std.specs.Int.Bits.{bit_xor}
+use Rattle.std.proofs.Common.{◌∙◌, arith, pow_mono}
 use Rattle.std.proofs.lemmas.List.{length-drop, length-map, get_or-drop}
 use Rattle.std.proofs.lemmas.Nat.{mod_below, xor_lt}
 use Rattle.field.specs.Sums.{linear_zero}
 use Rattle.std.proofs.lemmas.Bool.{and_parts, eqb-true, ltb-true}
-use Rattle.field.specs.Field.{Field, Laws, raised, power}
+use Rattle.field.specs.Field.{Laws, raised, power}
 use Rattle.field.specs.Binary.{binary, reduced_times, reduced_inverse}
 use Rattle.field.specs.Products as product
 use Rattle.field.specs.Powers.{Product, times_power, once, one_first, power_below, power_add, power_of_order}

@@ -1,7 +1,7 @@
 -- Powers in a commutative product with 1. Assumes nothing.
 use Rattle.std.specs.Prelude.{◌≡◌, ℕ, zero, suc, ◌+◌, ◌*◌, ◌<◌}
 use Rattle.std.proofs.Math.Path.{refl, sym, ap}
-use Rattle.std.proofs.Common.{ap₂, ◌∙◌, arith, suc-mul, zero-mul, mul_comm, add_comm, zero-add, suc-add}
+use Rattle.std.proofs.Common.{◌∙◌, suc-mul, zero-mul, mul_comm, add_comm, zero-add, suc-add}
 use Rattle.field.specs.Field.{raised}
 
 -- c times x to the power k, for any c

@@ -1,10 +1,10 @@
 -- The reduced product of polynomials over two elements: linear on both sides, commutative, associative. Assumes nothing.
-use Rattle.std.specs.Prelude.{◌≡◌, ℕ, zero, suc, ◌+◌, ◌-◌, ◌*◌, ◌/◌, ◌%◌, ◌^◌, ◌<◌, ◌≤◌, bit_xor, refl}
+use Rattle.std.specs.Prelude.{◌≡◌, ℕ, zero, suc, ◌-◌, ◌*◌, ◌/◌, ◌%◌, ◌^◌, ◌<◌, ◌≤◌, bit_xor, refl}
 use Rattle.std.proofs.Common.{sym, ◌∙◌}
 use Rattle.std.proofs.Math.Path.{ap, ap₂}
 use native.Mathlib.Omega.{arith}
 use Rattle.std.proofs.Math.Nat.{mod-eq_of_lt, div-eq_of_lt, div-add-mod', pow-suc}
-use Rattle.std.specs.Int.Bits.{xor_lt, xor_zero_l, xor_zero_r, xor_self, xor_shifted, xor_comm}
+use Rattle.std.specs.Int.Bits.{xor_lt, xor_zero_r, xor_shifted, xor_comm}
 use Rattle.std.proofs.Math.Pow.{pow_pos, pow_mono}
 use Rattle.std.proofs.lemmas.Nat.{mod_below, div_below, xor_mod}
 use Rattle.field.specs.Binary.{doubled, times_bits, reduced_times}

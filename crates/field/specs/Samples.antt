@@ -1,6 +1,5 @@
 -- A worked example of the octets' product. Assumes nothing.
-use Rattle.std.specs.Prelude.{◌≡◌, ℕ}
-use Rattle.field.specs.Field.{Field}
+use Rattle.std.specs.Prelude.{◌≡◌}
 use Rattle.field.specs.Binary.{octets}
 
 -- hexadecimal 80 times 02 is 1D

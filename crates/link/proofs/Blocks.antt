@@ -1,6 +1,6 @@
 -- A word's blocks through a delay line, block by block. Assumes nothing.
-use Rattle.std.proofs.Common.{◌≡◌, ℕ, zero, suc, ◌+◌, ◌*◌, ◌<◌, ◌≤◌, List, [], ◌∷◌, ◌++◌, length, take, drop, sym, refl, ap, ◌∙◌, ap₂, append_assoc, append-nil, mul-le-mul_right, suc-mul, add-mul, suc-add, zero-mul, arith}
-use Rattle.std.proofs.lemmas.List.{drop_all, drop_at, drop-drop, length-drop, take_at}
+use Rattle.std.proofs.Common.{◌≡◌, ℕ, zero, suc, ◌+◌, ◌*◌, ◌<◌, ◌≤◌, List, [], ◌∷◌, ◌++◌, length, take, drop, sym, ap, ◌∙◌, ap₂, append_assoc, append-nil, mul-le-mul_right, suc-mul, add-mul, suc-add, zero-mul, arith}
+use Rattle.std.proofs.lemmas.List.{drop_all, drop_at, drop-drop, take_at}
 use Rattle.delay.specs.declared.triangle.Triangle.{Triangle}
 use Rattle.delay.specs.Queues.{Alike, Bank}
 use Rattle.delay.specs.Runs.{outs, rest}

@@ -1,5 +1,5 @@
 -- The sender's interleaver as a delay line. Assumes nothing.
-use Rattle.std.proofs.Common.{◌≡◌, ℕ, ◌+◌, ◌-◌, ◌*◌, ◌<◌, ◌≤◌, List, length, Ok, Err, Result, sym, refl, ap, ◌∙◌, mul-le-mul, div-le_self, arith}
+use Rattle.std.proofs.Common.{◌≡◌, ℕ, ◌+◌, ◌-◌, ◌*◌, ◌<◌, ◌≤◌, List, length, Ok, Err, Result, sym, ap, ◌∙◌, mul-le-mul, div-le_self, arith}
 use Prim.{Unit}
 use Rattle.coder.specs.declared.misfit.Misfit.{Misfit}
 use Rattle.delay.specs.declared.triangle.Triangle.{Triangle}

@@ -1,5 +1,5 @@
 -- A gathered word, read: an accepted receive. Assumes nothing.
-use Rattle.std.proofs.Common.{◌≡◌, ℕ, suc, ◌+◌, ◌*◌, List, Ok, Err, Result, ap, ◌∙◌, subst, arith}
+use Rattle.std.proofs.Common.{◌≡◌, ℕ, ◌+◌, ◌*◌, List, Ok, Err, Result, ◌∙◌, subst, arith}
 use Rattle.coder.specs.Codes.{Code}
 use Rattle.coder.specs.declared.arrival.Arrival.{Arrival}
 use Rattle.scrambler.specs.States.{earlier_bits}

@@ -1,5 +1,5 @@
 -- Every setting keeps the relations that the theory of runs asks for. Assumes nothing.
-use Rattle.std.proofs.Common.{◌≡◌, ℕ, ◌+◌, ◌*◌, ◌/◌, ◌%◌, ◌<◌, ◌≤◌, min, ◌⊎◌, ap, ◌∙◌, inl, inr, mod-lt, add-mul, one-mul, div-add-mod', arith}
+use Rattle.std.proofs.Common.{◌≡◌, ℕ, ◌+◌, ◌*◌, ◌/◌, ◌%◌, ◌<◌, ◌≤◌, ◌⊎◌, ap, ◌∙◌, inl, inr, mod-lt, add-mul, one-mul, div-add-mod', arith}
 use Rattle.std.proofs.lemmas.Bool.{cases_lt}
 use Rattle.setting.specs.declared.setting.Setting.{Setting}
 use Rattle.setting.specs.Settings.{plan}

@@ -1,10 +1,9 @@
 -- The number of each loss, and its answer as the theory has it. Assumes nothing.
 use Rattle.std.specs.Prelude.{ℕ}
-use Rattle.runs.specs.Receivers.{Answer, coder_loss, scrambler_loss, loss_number}
+use Rattle.runs.specs.Receivers.{Answer, coder_loss, scrambler_loss}
 use Rattle.link.specs.Refusals.{refused_number}
 use Rattle.link.specs.declared.loss.Cause.{Cause}
 use Rattle.link.specs.declared.loss.Cause.TheVariants.{Coder, Scrambler}
-use Rattle.link.specs.declared.loss.Loss.{Loss}
 use Rattle.link.specs.declared.loss.Unreceived.{Unreceived}
 use Rattle.link.specs.declared.loss.Unreceived.TheVariants.{Refused, Lost}
 

@@ -9,7 +9,6 @@ use Rattle.coder.specs.declared.undecoded.Undecoded.TheVariants as undecoded
 use Rattle.setting.specs.Settings.{plan}
 use Rattle.runs.specs.Receivers.{Gives, Received, delivered, marks_in, receive_answer}
 use Rattle.runs.specs.Receivers as runs
-use Rattle.link.specs.declared.loss.Cause.{Cause}
 use Rattle.link.specs.declared.loss.Cause.TheVariants.{Coder, Scrambler}
 use Rattle.link.specs.declared.loss.Unreceived.{Unreceived}
 use Rattle.link.specs.declared.loss.Unreceived.TheVariants as unreceived

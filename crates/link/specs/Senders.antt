@@ -2,7 +2,6 @@
 use Rattle.std.specs.Prelude.{◌≡◌, ℕ, List, replicate, Ok, Err, Result}
 use Prim.{Unit, tt}
 use Rattle.coder.specs.Codes.{Code}
-use Rattle.places.specs.Line.{Plan}
 use Rattle.setting.specs.declared.setting.Setting.{Setting}
 use Rattle.setting.specs.Settings.{plan}
 use Rattle.scrambler.specs.States.{earlier_bits}

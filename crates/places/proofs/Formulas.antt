@@ -1,6 +1,6 @@
 -- The burst limit by a formula: without interleaving, and where each branch is delayed past the one before it.
 -- Assumes nothing.
-use Rattle.std.proofs.Common.{◌≡◌, ℕ, zero, suc, ◌+◌, ◌-◌, ◌*◌, ◌/◌, ◌%◌, ◌<◌, ◌≤◌, Bool, true, ◌⊎◌, sym, refl, ap, ◌∙◌, ap₂, inl, inr, mul-le-mul_right, mod-lt, mul_assoc, suc-mul, mul_comm, div-lt_iff_lt-mul, add-mul, mul-le-mul_left, mul-zero, div-add-mod', zero-add, zero-mul, mul-one, mul-add, arith}
+use Rattle.std.proofs.Common.{◌≡◌, ℕ, zero, suc, ◌+◌, ◌-◌, ◌*◌, ◌/◌, ◌%◌, ◌<◌, ◌≤◌, true, ◌⊎◌, sym, ap, ◌∙◌, ap₂, inl, inr, mul-le-mul_right, mod-lt, mul_assoc, suc-mul, mul_comm, div-lt_iff_lt-mul, add-mul, mul-le-mul_left, div-add-mod', zero-add, zero-mul, mul-one, mul-add, arith}
 use lib.Arith.{digits_div, digits_lt, digits_mod}
 use Rattle.std.proofs.lemmas.Bool.{cases_lt}
 use Rattle.places.specs.Line.{Plan, place}

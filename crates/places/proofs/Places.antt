@@ -1,6 +1,6 @@
 -- The line places of a word's octets: none is shared, each word lies as word 0 does, and a place tells its octet.
 -- Assumes nothing.
-use Rattle.std.proofs.Common.{◌≡◌, ℕ, zero, suc, ◌+◌, ◌-◌, ◌*◌, ◌/◌, ◌%◌, ◌<◌, ◌≤◌, sym, refl, ap, ◌∙◌, ap₂, mul-le-mul_right, mod-lt, mul_assoc, suc-mul, mul_comm, div-lt_iff_lt-mul, add-mul, mul-le-mul_left, mul-zero, div-add-mod', zero-add, zero-mul, arith}
+use Rattle.std.proofs.Common.{◌≡◌, ℕ, suc, ◌+◌, ◌-◌, ◌*◌, ◌/◌, ◌%◌, ◌<◌, ◌≤◌, sym, ap, ◌∙◌, ap₂, mul-le-mul_right, mod-lt, mul_assoc, suc-mul, mul_comm, div-lt_iff_lt-mul, add-mul, mul-le-mul_left, mul-zero, div-add-mod', zero-add, zero-mul, arith}
 use native.Mathlib.Nat.{zero-div, zero-mod}
 use lib.Arith.{digits_div, digits_lt, digits_mod}
 use Rattle.places.specs.Line.{Plan, Lies, place}

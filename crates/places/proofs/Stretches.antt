@@ -1,6 +1,6 @@
 -- Stretches of the line: it is enough to look at those that begin with an octet of word 0. Assumes nothing.
-use Rattle.std.proofs.Common.{◌≡◌, ℕ, zero, suc, ◌+◌, ◌*◌, ◌<◌, ◌≤◌, Bool, true, false, cond, eqb, ltb, ◌⊎◌, sym, refl, ap, ◌∙◌, inl, inr, add_assoc, zero-add, zero-mul, add-one, arith}
-use Rattle.std.proofs.lemmas.Bool.{cases_lt, eq-eqb, eqb-true, eqb-false, ne_eqb, ltb-true, ltb-false}
+use Rattle.std.proofs.Common.{◌≡◌, ℕ, zero, suc, ◌+◌, ◌*◌, ◌<◌, ◌≤◌, true, false, eqb, ltb, ◌⊎◌, sym, ap, ◌∙◌, inl, inr, zero-mul, add-one, arith}
+use Rattle.std.proofs.lemmas.Bool.{cases_lt, eqb-true, eqb-false, ne_eqb, ltb-true, ltb-false}
 use Rattle.places.specs.Line.{Plan, place}
 use Rattle.places.specs.Limit.{tally, within, held, Spreads, Longest, Sharp}
 use Rattle.places.proofs.Tallies.{

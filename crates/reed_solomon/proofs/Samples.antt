@@ -1,13 +1,13 @@
 -- The worked words and decodings. Assumes nothing.
-use Rattle.std.proofs.Common.{◌≡◌, ℕ, zero, suc, ◌+◌, ◌<◌, ◌≤◌, ◌⊎◌, List, [], ◌∷◌, length, get_or, sym, refl, ap, ◌∙◌, inl, inr, arith}
+use Rattle.std.proofs.Common.{◌≡◌, ℕ, zero, suc, ◌+◌, ◌<◌, ◌≤◌, ◌⊎◌, List, [], ◌∷◌, length, sym, refl, ap, ◌∙◌, inl, inr, arith}
 use Rattle.std.proofs.lemmas.Bool.{cases_lt}
-use Rattle.coder.specs.Codes.{Message, Near, NoneNear, Octets, distance}
+use Rattle.coder.specs.Codes.{Near, NoneNear, Octets, distance}
 use Rattle.field.specs.Field.{raised, power}
 use Rattle.field.specs.Polynomials.{value_at}
 use Rattle.field.specs.Binary.{octets, doubled, times_bits, reduced_times}
 use Rattle.field.specs.Octets.{octet_laws}
 use Rattle.rs_algebra.specs.Polynomials.{Elements, zeros, plus, scaled, product, generator}
-use Rattle.rs_algebra.specs.Words.{remainder, check_of, word_of, weight}
+use Rattle.rs_algebra.specs.Words.{remainder, check_of, word_of}
 use Rattle.rs_algebra.proofs.Lists.{all_zeros}
 use Rattle.rs_algebra.proofs.Polynomials.{value_zeros}
 use Rattle.rs_algebra.proofs.Zero.{zero_word}

@@ -35,3 +35,7 @@ module _ (f : Field) (laws : Laws f) where
         far a b ha hb other =
             let differ = words_differ f laws R a b (ha.long ∙ sym hb.long) (omega (arith, ha.long)) (octets_elements a ha.octets) (octets_elements b hb.octets) other in
             omega arith
+
+    -- the same by the sizes that a coder keeps
+    pub sound_by_sizes : (K R N : ℕ) → (3 ≤ K) × (K ≤ N) × (N ≤ 255) → N ≡ K + R → Sound (rs_code f K R)
+    sound_by_sizes K R N lengths word = sound K R lengths.0 (omega arith)

@@ -2,7 +2,6 @@
 ghost use Rattle.field.specs.Binary.{octets};
 ghost use Rattle.reed_solomon.specs.Constructed.{code_over};
 ghost use Rattle.std.specs.Prelude.{refl};
-ghost use Rattle.std.proofs.Common.{arith};
 ghost use Rattle.field.specs.Octets.{octet_laws};
 ghost use Rattle.reed_solomon.specs.Codes;
 
@@ -14,7 +13,7 @@ use field::Table;
 impl Coder for ReedSolomon<Table> {
     ghost code = { λ s. code_over octets s };
 
-    ghost sound = { λ s. Codes.sound octets octet_laws refl s.sizes.frame s.check (omega arith) (omega arith) };
+    ghost sound = { λ s. Codes.sound_by_sizes octets octet_laws refl s.sizes.frame s.check s.sizes.word s.sizes.lengths s.word };
 
     fn sizes(&self) -> Sizes {
         self.sizes

@@ -1,5 +1,5 @@
 -- The check difference: the check octets of a received word's message and those received, added. Assumes nothing.
-use Rattle.std.proofs.Common.{◌≡◌, ℕ, ◌+◌, ◌<◌, List, [], ◌∷◌, ◌++◌, length, get_or, take, drop, sym, ap, ◌∙◌, arith, length-drop, take-append-drop}
+use Rattle.std.proofs.Common.{◌≡◌, ℕ, ◌+◌, ◌<◌, List, ◌++◌, length, get_or, take, drop, sym, ap, ◌∙◌, arith, length-drop, take-append-drop}
 use lib.Bits.{bit_xor}
 use Rattle.std.proofs.lemmas.List.{append_cancel_left}
 use Rattle.field.specs.Field.{Field, Laws, power, raised}

@@ -1,5 +1,5 @@
 -- A polynomial that the equations of the syndromes kill vanishes at each error. Assumes nothing.
-use Rattle.std.proofs.Common.{◌≡◌, ℕ, ◌+◌, ◌<◌, ◌≤◌, List, [], ◌∷◌, length, get_or, sym, ◌∙◌, arith}
+use Rattle.std.proofs.Common.{◌≡◌, ℕ, ◌+◌, ◌<◌, ◌≤◌, List, length, get_or, sym, ◌∙◌, arith}
 use Rattle.field.specs.Field.{Field, Laws, power}
 use Rattle.rs_algebra.specs.Polynomials.{Elements, low_at, weighed}
 use Rattle.field.specs.Polynomials.{value_at}

@@ -1,5 +1,5 @@
 -- What the theorems need of a setting and a coder. Assumes nothing.
-use Rattle.std.proofs.Common.{◌≡◌, ℕ, ◌+◌, ◌-◌, ◌*◌, ◌/◌, ◌<◌, ◌≤◌}
+use Rattle.std.proofs.Common.{◌≡◌, ◌+◌, ◌-◌, ◌*◌, ◌/◌, ◌<◌, ◌≤◌}
 use Rattle.places.specs.Line.{Plan}
 use Rattle.places.proofs.Places.{Laid}
 use Rattle.coder.specs.Codes.{Code, Sound}

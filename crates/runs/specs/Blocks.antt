@@ -1,6 +1,6 @@
 -- Words cut into blocks, and passed through a delay line. Assumes nothing.
-use Rattle.std.specs.Prelude.{◌≡◌, ℕ, zero, suc, ◌+◌, List, [], ◌∷◌, ◌++◌, length, take, drop}
-use Rattle.delay.specs.Queues.{Bank, Alike}
+use Rattle.std.specs.Prelude.{ℕ, zero, suc, List, [], ◌∷◌, ◌++◌, take, drop}
+use Rattle.delay.specs.Queues.{Bank}
 use Rattle.delay.specs.Runs.{outs, rest}
 
 -- the q blocks of I elements from the front of a list

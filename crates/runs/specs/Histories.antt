@@ -1,6 +1,6 @@
 -- How an end came from open to its present state: by accepted calls, each with the end's one memory and the shared coder, and by refused ones,
 -- which may have been lent anything and moved nothing. Assumes nothing.
-use Rattle.std.specs.Prelude.{◌≡◌, ℕ, ◌+◌, List, [], ◌∷◌, ◌++◌, length, replicate, Ok}
+use Rattle.std.specs.Prelude.{◌≡◌, ℕ, ◌+◌, List, [], ◌∷◌, ◌++◌, replicate, Ok}
 use Prim.{tt}
 use Rattle.places.specs.Line.{Plan}
 use Rattle.coder.specs.declared.arrival.Arrival.{Arrival}

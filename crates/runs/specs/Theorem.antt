@@ -1,6 +1,5 @@
 -- The burst theorem: what a pair of ends promises for whole runs. Assumes nothing.
 use Rattle.std.specs.Prelude.{◌≡◌, ℕ, zero, suc, ◌+◌, ◌*◌, ◌<◌, ◌≤◌, Bool, ◌≢◌, List, [], length, slice_index, slice_index_or}
-use Prim.{⊥}
 use Rattle.places.specs.Line.{Plan, place}
 use Rattle.places.specs.Limit.{BurstLimit}
 use Rattle.coder.specs.declared.arrival.Arrival.{Arrival}

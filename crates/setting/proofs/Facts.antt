@@ -1,8 +1,8 @@
 -- What every setting keeps, in the form that proofs use. Assumes nothing.
-use Rattle.std.proofs.Common.{◌≡◌, ℕ, ◌+◌, ◌*◌, ◌/◌, ◌%◌, ◌^◌, ◌<◌, ◌≤◌, ltb, leb, ◌⊎◌, Decides, sym, ap, inl, inr, mul-le-mul_right, mod-lt, mul-le-mul, mul-le-mul_left, zero-add, zero-mul, mul-one, div-le_self, arith}
+use Rattle.std.proofs.Common.{◌≡◌, ℕ, ◌+◌, ◌*◌, ◌/◌, ◌%◌, ◌^◌, ◌<◌, ◌≤◌, ltb, leb, ◌⊎◌, Decides, ap, inl, inr, mul-le-mul_right, mod-lt, mul-le-mul, mul-le-mul_left, zero-add, zero-mul, mul-one, div-le_self, arith}
 use native.Mathlib.Nat.{mod-le}
 use Rattle.std.proofs.lemmas.Bool.{cases_lt, leb-true, lt-ltb, ltb-true}
-use Rattle.places.specs.Line.{Plan, place}
+use Rattle.places.specs.Line.{place}
 use Rattle.places.proofs.Places.{Laid, octet_there, reached, there_high, there_low}
 use Rattle.setting.specs.declared.setting.Setting.{Setting}
 use Rattle.setting.specs.Settings.{plan}

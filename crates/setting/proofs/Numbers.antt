@@ -1,5 +1,5 @@
 -- Arithmetic of a setting's numbers. Assumes nothing.
-use Rattle.std.proofs.Common.{◌≡◌, ℕ, ◌+◌, ◌-◌, ◌*◌, ◌/◌, ◌%◌, ◌<◌, ◌≤◌, ◌⊎◌, sym, ◌∙◌, inl, inr, mod-eq_of_lt, mul-le-mul, div-add-mod', arith}
+use Rattle.std.proofs.Common.{◌≡◌, ℕ, ◌-◌, ◌*◌, ◌/◌, ◌%◌, ◌<◌, ◌≤◌, ◌⊎◌, inl, inr, mod-eq_of_lt, mul-le-mul, div-add-mod', arith}
 use Rattle.std.proofs.lemmas.Bool.{cases_lt}
 
 -- what divides a number is not larger

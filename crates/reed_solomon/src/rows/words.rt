@@ -1,7 +1,6 @@
 // The coder with rows as a coder.
 ghost use Rattle.reed_solomon.specs.RowCoders.{code_of};
 ghost use Rattle.std.specs.Prelude.{refl};
-ghost use Rattle.std.proofs.Common.{arith};
 ghost use Rattle.field.specs.Binary.{octets};
 ghost use Rattle.field.specs.Octets.{octet_laws};
 ghost use Rattle.reed_solomon.specs.Codes;
@@ -12,7 +11,7 @@ use coder::{Coder, Misfit, Sizes, Undecoded};
 impl Coder for RowCoder {
     ghost code = { λ s. code_of s };
 
-    ghost sound = { λ s. Codes.sound octets octet_laws refl s.plain.sizes.frame s.plain.check (omega arith) (omega arith) };
+    ghost sound = { λ s. Codes.sound_by_sizes octets octet_laws refl s.plain.sizes.frame s.plain.check s.plain.sizes.word s.plain.sizes.lengths s.plain.word };
 
     fn sizes(&self) -> Sizes {
         self.plain.sizes

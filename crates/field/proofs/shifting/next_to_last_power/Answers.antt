@@ -1,4 +1,4 @@
-use Rattle.std.proofs.Common.{◌≡◌, ℕ, suc, ◌+◌, ◌-◌, ◌*◌, ◌^◌, ◌≤◌, sym, refl, ap, ◌∙◌, ap₂, pow-suc, arith, pow_pos}
+use Rattle.std.proofs.Common.{◌≡◌, ℕ, suc, ◌+◌, ◌-◌, ◌*◌, ◌^◌, refl, ap, ◌∙◌, ap₂, pow-suc, arith, pow_pos}
 use Rattle.field.specs.Field.{raised}
 use Rattle.field.specs.Binary.{reduced_times, reduced_inverse}
 use Rattle.field.specs.Powers.{power_add}

@@ -1,4 +1,4 @@
-use Rattle.std.proofs.Common.{◌≡◌, ℕ, ◌-◌, ◌^◌, ◌≤◌}
+use Rattle.std.proofs.Common.{◌≡◌, ◌-◌, ◌^◌, ◌≤◌}
 use Rattle.field.specs.Field.{raised}
 use Rattle.field.specs.Binary.{reduced_times}
 use Rattle.field.proofs.shifting.next_to_last_power.Given as goal

@@ -1,4 +1,4 @@
-use Rattle.std.proofs.Common.{◌≡◌, ℕ, suc, ◌+◌, sym, refl, ap, ◌∙◌, arith}
+use Rattle.std.proofs.Common.{◌≡◌, suc, ◌+◌, refl, ap, ◌∙◌, arith}
 use Rattle.field.specs.Field.{power, raised}
 use Rattle.field.specs.Binary.{octets, reduced_times}
 use Rattle.field.proofs.shifting.repeated.Goals as goal

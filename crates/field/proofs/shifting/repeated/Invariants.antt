@@ -1,4 +1,4 @@
-use Rattle.std.proofs.Common.{◌≡◌, ℕ, ◌≤◌}
+use Rattle.std.proofs.Common.{◌≡◌, ◌≤◌}
 use Rattle.field.specs.Field.{power}
 use Rattle.field.specs.Binary.{octets}
 use Rattle.field.proofs.shifting.repeated.Given as goal

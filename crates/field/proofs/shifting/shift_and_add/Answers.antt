@@ -1,5 +1,5 @@
-use Rattle.std.proofs.Common.{◌≡◌, ℕ, suc, ◌+◌, ◌-◌, ◌*◌, ◌/◌, ◌%◌, ◌≤◌, sym, refl, ap, ◌∙◌, ap₂, mod-eq_of_lt, arith}
-use lib.Bits.{bit_xor, xor_assoc, xor_zero_l, xor_zero_r}
+use Rattle.std.proofs.Common.{◌≡◌, ℕ, suc, ◌+◌, ◌-◌, ◌*◌, ◌/◌, ◌%◌, sym, ap, ◌∙◌, ap₂, mod-eq_of_lt, arith}
+use lib.Bits.{bit_xor, xor_assoc, xor_zero_r}
 use Rattle.field.specs.Binary.{doubled, times_bits, reduced_times}
 use Rattle.field.specs.Products.{none, once, bits-step}
 use Rattle.field.proofs.shifting.shift_and_add.Goals as goal

@@ -1,4 +1,4 @@
-use Rattle.std.proofs.Common.{◌≡◌, ℕ, ◌-◌, ◌≤◌}
+use Rattle.std.proofs.Common.{◌≡◌, ◌-◌, ◌≤◌}
 use lib.Bits.{bit_xor}
 use Rattle.field.specs.Binary.{times_bits}
 use Rattle.field.proofs.shifting.shift_and_add.Given as goal

@@ -1,4 +1,4 @@
-use Rattle.std.proofs.Common.{◌≡◌, sym, ap, ◌∙◌, ap₂}
+use Rattle.std.proofs.Common.{sym, ap, ◌∙◌, ap₂}
 use Rattle.field.specs.Binary.{octets, reduced_times}
 use Rattle.field.proofs.Facts.{times_zero, zero_times}
 use Rattle.field.specs.Generators.{powers_add}

@@ -1,6 +1,6 @@
 use Rattle.std.proofs.Common.{◌≡◌, ℕ, ◌+◌, ◌-◌, ◌%◌, sym, ap, ◌∙◌, ap₂, arith}
 use Rattle.field.specs.Field.{power, raised}
-use Rattle.field.specs.Binary.{octets, reduced_times, reduced_inverse}
+use Rattle.field.specs.Binary.{octets, reduced_times}
 use Rattle.field.proofs.Facts.{inverse_unique}
 use Rattle.field.specs.Generators.{powers_add, powers_around}
 use Rattle.field.specs.Octets.{octets_generated, octet_laws}

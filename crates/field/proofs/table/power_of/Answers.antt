@@ -1,4 +1,4 @@
-use Rattle.std.proofs.Common.{◌≡◌, ℕ, ◌+◌, ◌-◌, sym, ap, ◌∙◌, arith}
+use Rattle.std.proofs.Common.{◌≡◌, ◌+◌, ◌-◌, sym, ap, ◌∙◌, arith}
 use Rattle.field.specs.Field.{power}
 use Rattle.field.specs.Binary.{octets, doubled, times_bits, reduced_times}
 use Rattle.field.specs.Generators.{listed, power_table, power_at, powers_around}

@@ -1,4 +1,4 @@
-use Rattle.std.proofs.Common.{◌≡◌, ℕ, ◌+◌, ◌/◌, List, length, sym, ap, ◌∙◌, arith}
+use Rattle.std.proofs.Common.{◌≡◌, ℕ, ◌+◌, ◌/◌, length, ap, ◌∙◌, arith}
 use Rattle.field.specs.Field.{power}
 use Rattle.field.specs.Polynomials.{value_at}
 use Rattle.reed_solomon.proofs.Repairs.{answered}

@@ -1,4 +1,4 @@
-use Rattle.std.proofs.Common.{sym, rules}
+use Rattle.std.proofs.Common.{rules}
 use Rattle.std.proofs.lemmas.Bool.{eqb-true, lt-ltb}
 use Rattle.setting.proofs.Numbers.{divisor_le}
 use Rattle.setting.proofs.accepted.cuts.Goals as goal

@@ -1,4 +1,4 @@
-use Rattle.std.proofs.Common.{refl, arith, rules}
+use Rattle.std.proofs.Common.{refl, arith}
 use Rattle.setting.proofs.Numbers.{spread_below}
 use Rattle.setting.proofs.accepted.twice_memory.Goals as goal
 

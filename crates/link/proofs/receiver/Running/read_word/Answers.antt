@@ -1,4 +1,4 @@
-use Rattle.std.proofs.Common.{◌∙◌, rules}
+use Rattle.std.proofs.Common.{◌∙◌}
 use Rattle.link.proofs.receiver.Running.read_word.Goals as goal
 
 pub returns : goal.returns

@@ -1,4 +1,4 @@
-use Rattle.std.proofs.Common.{◌≡◌, ◌≤◌}
+use Rattle.std.proofs.Common.{◌≡◌}
 use Rattle.places.proofs.Search.{Counting}
 use Rattle.setting.specs.Settings.{plan}
 use Rattle.setting.proofs.setting.Setting.longest.Given as goal

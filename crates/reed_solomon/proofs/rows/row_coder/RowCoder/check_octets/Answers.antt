@@ -1,4 +1,4 @@
-use Rattle.std.proofs.Common.{◌≡◌, ℕ, sym, ap, ◌∙◌, arith}
+use Rattle.std.proofs.Common.{ℕ, sym, ap, ◌∙◌, arith}
 use Rattle.field.specs.Binary.{octets}
 use Rattle.field.specs.Octets.{octet_laws}
 use Rattle.rs_algebra.specs.Words.{check_of}
