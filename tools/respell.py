@@ -15,7 +15,7 @@ append-elements=append_elements arrivedAt=arrived_at at-0=at_0 at-clock=at_clock
 at-most-octets=at_most_octets at-weight=at_weight atLocators=at_locators atWord=at_word b-back=b_back begun-long=begun_long below-reach=below_reach
 bit-back=bit_back bit-formula=bit_formula bit-of=bit_of bit-scales=bit_scales bit-times=bit_times bits-low=bits_low bits-of-octets=bits_of_octets
 bits-shifted=bits_shifted block-le=block_le blocks-below=blocks_below blocks-cut=blocks_cut blocks-in=blocks_in blocks-outs=blocks_outs
-both-vanish=both_vanish branch-lt=branch_lt branch-of=branch_of by-root=by_root by-root-elements=by_root_elements by-root-long=by_root_long
+both-vanish=both_vanish branch-lt=branch_lt branch-of=branch_of by-root-elements=by_root_elements by-root-long=by_root_long by-root=by_root
 carried-done=carried_done carried-more=carried_more carried-root=carried_root causeNumber=cause_number check-elements=check_elements
 check-long=check_long check-of=check_of_lem check-only=check_only check-register=check_register check-remains=check_remains
 checkDifference=check_difference checkOf=check_of checked-words=checked_words cleared-memory=cleared_memory clock-below=clock_below close-by=close_by
@@ -37,7 +37,7 @@ found-passes=found_passes frame-fits=frame_fits frame-long=frame_long frameFits=
 front-stored=front_stored gathered-by=gathered_by gathered-word=gathered_word generator-elements=generator_elements generator-long=generator_long
 generator-roots=generator_roots generator-split=generator_split getD-joined=get_d_joined getD-late=get_d_late gone-on=gone_on got-long=got_long
 half-long=half_long held-few=held_few held-longer=held_longer hits-at-most-once=hits_at_most_once hits-once=hits_once horner-step=horner_step
-howMany=how_many howMany-all=how_many_all howMany-less=how_many_less howMany-next=how_many_next if-allowed=if_allowed in-ring=in_ring in-room=in_room
+howMany-all=how_many_all howMany-less=how_many_less howMany-next=how_many_next howMany=how_many if-allowed=if_allowed in-ring=in_ring in-room=in_room
 in-time=in_time inverse-below=inverse_below inverse-unique=inverse_unique is-octet=is_octet is-root=is_root j-lt=j_lt joined-elements=joined_elements
 kept-fits=kept_fits kept-is=kept_is kept-none=kept_none lag-enough=lag_enough lag-least=lag_least lagOf=lag_of last-earlier=last_earlier
 last-long=last_long last-two=last_two late-before=late_before late-same=late_same latest-all=latest_all latest-renewed=latest_renewed
@@ -92,22 +92,23 @@ taken-octet=taken_octet taken-one=taken_one tally-all=tally_all tally-more=tally
 tally-split=tally_split tap-bits=tap_bits terms-more=terms_more terms-next=terms_next terms-plus=terms_plus termsAt=terms_at test-passed=test_passed
 there-high=there_high there-low=there_low third-long=third_long three-copies=three_copies threefold-sound=threefold_sound threefoldCode=threefold_code
 threefoldSizes=threefold_sizes thrice-long=thrice_long thriceCode=thrice_code through-back=through_back times-left=times_left times-next=times_next
-times-one=times_one times-right=times_right timesBits=times_bits timesPower=times_power timesRoot=times_root toldRows=told_rows too-early=too_early
-true-agrees=true_agrees true-elements=true_elements true-error=true_error true-few=true_few true-long=true_long turned-next=turned_next
-twice-length=twice_length twice-start=twice_start undecodedNumber=undecoded_number undo-bits=undo_bits undone-at=undone_at unit-front=unit_front
-unreceivedNumber=unreceived_number upto-more=upto_more upto-none=upto_none v-long=v_long value-append=value_append value-at=value_at_lem
-value-below=value_below value-element=value_element value-from=value_from value-front=value_front value-mend=value_mend value-more=value_more
-value-next=value_next value-plus=value_plus value-product=value_product value-scaled=value_scaled value-single=value_single value-terms=value_terms
-value-zeros=value_zeros valueAt=value_at vanishes-plus=vanishes_plus vanishing-word=vanishing_word voted-at=voted_at_lem voted-long=voted_long
-voted-nearest=voted_nearest votedAt=voted_at wait-below=wait_below wait-is=wait_is waitOf=wait_of waiting-long=waiting_long waits-at=waits_at
-waits-b=waits_b way-below=way_below weighed-below=weighed_below weighed-next=weighed_next weighed-none=weighed_none weighed-push=weighed_push
-weighed-same=weighed_same weighed-term=weighed_term weight-before=weight_before weight-most=weight_most weight-next=weight_next
-weight-none=weight_none weight-push=weight_push weight-some=weight_some whole-none=whole_none whole-power=whole_power wide-steps=wide_steps
-wideLimit=wide_limit within-from=within_from within-true=within_true without-interleaving=without_interleaving word-elements=word_elements
-word-enters=word_enters word-le=word_le word-long=word_long word-octets=word_octets word-of-place=word_of_place word-pos=word_pos
-word-samples=word_samples word-taken=word_taken word-vanishes=word_vanishes wordFrom=word_from words-blocks=words_blocks words-differ=words_differ
-words-stand=words_stand xor-again=xor_again xor-four=xor_four xor-none=xor_none zero-at=zero_at zero-element=zero_element zero-terms=zero_terms
-zero-times=zero_times zeros-at=zeros_at zeros-elements=zeros_elements zeros-enter=zeros_enter zeros-long=zeros_long zeros-read=zeros_read
+times-one=times_one times-right=times_right timesBits=times_bits timesPower=times_power timesRoot=times_root told-apart=told_apart toldRows=told_rows
+too-early=too_early true-agrees=true_agrees true-elements=true_elements true-error=true_error true-few=true_few true-long=true_long
+turned-next=turned_next twice-length=twice_length twice-start=twice_start undecodedNumber=undecoded_number undo-bits=undo_bits undone-at=undone_at
+unit-front=unit_front unreceivedNumber=unreceived_number upto-more=upto_more upto-none=upto_none v-long=v_long value-append=value_append
+value-at=value_at_lem value-below=value_below value-element=value_element value-from=value_from value-front=value_front value-mend=value_mend
+value-more=value_more value-next=value_next value-plus=value_plus value-product=value_product value-scaled=value_scaled value-single=value_single
+value-terms=value_terms value-zeros=value_zeros valueAt=value_at vanishes-plus=vanishes_plus vanishing-word=vanishing_word voted-at=voted_at_lem
+voted-long=voted_long voted-nearest=voted_nearest votedAt=voted_at wait-below=wait_below wait-is=wait_is waitOf=wait_of waiting-long=waiting_long
+waits-at=waits_at waits-b=waits_b way-below=way_below weighed-below=weighed_below weighed-next=weighed_next weighed-none=weighed_none
+weighed-push=weighed_push weighed-same=weighed_same weighed-term=weighed_term weight-before=weight_before weight-most=weight_most
+weight-next=weight_next weight-none=weight_none weight-push=weight_push weight-some=weight_some whole-none=whole_none whole-power=whole_power
+wide-steps=wide_steps wideLimit=wide_limit within-from=within_from within-true=within_true without-interleaving=without_interleaving
+word-elements=word_elements word-enters=word_enters word-le=word_le word-long=word_long word-octets=word_octets word-of-place=word_of_place
+word-pos=word_pos word-samples=word_samples word-taken=word_taken word-vanishes=word_vanishes wordFrom=word_from words-blocks=words_blocks
+words-differ=words_differ words-stand=words_stand xor-again=xor_again xor-four=xor_four xor-none=xor_none zero-at=zero_at zero-element=zero_element
+zero-terms=zero_terms zero-times=zero_times zeros-at=zeros_at zeros-elements=zeros_elements zeros-enter=zeros_enter zeros-long=zeros_long
+zeros-read=zeros_read
 """
 
 NAME = r"[^\s(){}\[\];,.λ⟨⟩`\"|]"

@@ -50,8 +50,8 @@ module _ {p : Plan} {c : Code} (fits : Fits p c) where
         (λ n d h. get_or_default frames n d [] h ∙ same_frame n h ∙ get_or_default frames' n [] d (omega arith))
 
 module _ {p : Plan} {c : Code} (settled : Settled p) (fits : Fits p c) where
-  pub told-apart : (B : ℕ) → BurstLimit p B → ToldApart p c B
-  told-apart B limit frames frames' line line' arrivals answers answers' run rule run' rule' =
+  pub told_apart : (B : ℕ) → BurstLimit p B → ToldApart p c B
+  told_apart B limit frames frames' line line' arrivals answers answers' run rule run' rule' =
       let carries = carried settled fits (sender_of run.sender) (le_of_eq run.met) in
       let carries' = carried settled fits (sender_of run'.sender) (le_of_eq run'.met) in
       let rest = answers_rest settled arrivals answers run.receiver in

@@ -106,5 +106,5 @@ pub record RidesOut (p : Plan) (c : Code) (B : ℕ) : Type 0 where
   pub line_holds : (frames : List (List ℕ)) (line : List ℕ) → SenderRun p c frames line → LineHolds p c frames line
   pub answers_rest : (arrivals : List Arrival) (answers : List Answer) → ReceiverRun p c arrivals answers → AnswersRest p c arrivals answers
   pub frames_arrive : FramesArrive p c B
-  pub told-apart : ToldApart p c B
+  pub told_apart : ToldApart p c B
   pub sharp_limit : SharpLimit p c B
