@@ -4,11 +4,10 @@ set -e
 here=$(cd "$(dirname "$0")/.." && pwd)
 work=${1:-/tmp/aisle-bench}
 mkdir -p "$work"
-rsync -a --delete --exclude .git --exclude target "$here/" "$work/" 2>/dev/null || { rm -rf "$work"; cp -r "$here" "$work"; }
+rsync -a --delete --exclude .git --exclude out "$here/" "$work/" 2>/dev/null || { rm -rf "$work"; cp -r "$here" "$work"; }
 mkdir -p "$work/crates/bench_exports/src"
 cp "$here/bench/exports.rt.txt" "$work/crates/bench_exports/src/lib.rt"
-echo 'bench_exports: coder field rs_algebra reed_solomon' >> "$work/crates.txt"
-cd "$work"
-rt staticlib bench_exports
-gcc -O2 -o "$work/bench_words" bench/bench.c target/staticlib/libbench_exports.a /opt/rattle/lib/librattle_c.a -lfec -lm
+echo 'bench_exports staticlib: coder field rs_algebra reed_solomon' >> "$work/crates.txt"
+(cd "$work/crates/bench_exports" && rt lib)
+gcc -O2 -o "$work/bench_words" "$here/bench/bench.c" "$work/crates/bench_exports/out/libbench_exports.a" -lfec -lm
 "$work/bench_words"
