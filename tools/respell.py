@@ -1,7 +1,7 @@
 #!/usr/bin/env python3
 """Brings the repository's own definitions and lemmas to today's spelling: snake case, with a dash only between two names of functions.
 
-Run once at the top of the repository, after the kit's port script. It goes by whole words, in specs/, proofs/, clauses, must-fail edits and docs/.
+Run once at the top of the repository, after the kit's port script. It goes by whole words, in the .rt, .antt and .edit files below crates/, and in docs/ by words in backticks.
 """
 import os
 import re
