@@ -1,4 +1,9 @@
 // What is said of an accepted setting.
+ghost use Rattle.std.specs.Prelude.{Ok, Some};
+ghost use Rattle.installer.specs.Answers.{text};
+
+use std::fmt;
+
 #[derive(Clone, Copy, PartialEq, Eq, Debug)]
 pub struct Report {
     // N, the octets of a word
@@ -13,4 +18,21 @@ pub struct Report {
     pub reach: usize,
     // P, the elements of delay memory at each end
     pub memory: usize,
+}
+
+// N, q, w, B, Z and P with single spaces.
+impl fmt::Display for Report {
+    ghost output = { λ report. Some (text (Ok report)) };
+
+    fn fmt<W: fmt::Write>(&self, f: &mut fmt::Formatter<W>) -> fmt::Result {
+        let Report {
+            word,
+            parts,
+            lag,
+            burst,
+            reach,
+            memory,
+        } = self;
+        write!(f, "{word} {parts} {lag} {burst} {reach} {memory}")
+    }
 }
