@@ -3,11 +3,9 @@ ghost use Rattle.std.specs.Prelude.{◌≡◌};
 ghost use Rattle.coder.specs.Sizes.{told, reed_solomon_sizes, threefold_sizes, any_coder_sizes};
 
 use crate::refusal::Refusal;
-use crate::sizes::{LONGEST_WORD, Sizes};
+use crate::sizes::{LONGEST_WORD, MOST_CHECK, Sizes};
 
 const SHORTEST_FRAME: usize = 3;
-
-const MOST_CHECK: usize = 16;
 
 const LONGEST_THREEFOLD: usize = 85;
 
@@ -16,31 +14,20 @@ impl Sizes {
     pub fn reed_solomon(frame: usize, check: usize) -> Result<Sizes, Refusal>
         ensures { told result ≡ reed_solomon_sizes frame check }
     {
-        if check > MOST_CHECK || check % 2 != 0 {
+        if check > MOST_CHECK || check % 2 != 0 || frame > LONGEST_WORD {
             return Err(Refusal::UnfitSizes);
         }
-        if frame < SHORTEST_FRAME || frame > LONGEST_WORD - check {
-            return Err(Refusal::UnfitSizes);
-        }
-        Ok(Sizes {
-            frame,
-            word: frame + check,
-            repairs: check / 2,
-        })
+        Sizes::of_coder(frame, frame + check, check / 2)
     }
 
     // The frame three times over; `check` is there for the sake of a common form and must be 0.
     pub fn threefold(frame: usize, check: usize) -> Result<Sizes, Refusal>
         ensures { told result ≡ threefold_sizes frame check }
     {
-        if frame < SHORTEST_FRAME || frame > LONGEST_THREEFOLD || check != 0 {
+        if frame > LONGEST_THREEFOLD || check != 0 {
             return Err(Refusal::UnfitSizes);
         }
-        Ok(Sizes {
-            frame,
-            word: 3 * frame,
-            repairs: 1,
-        })
+        Sizes::of_coder(frame, 3 * frame, 1)
     }
 
     // A coder of another make, by its own numbers.

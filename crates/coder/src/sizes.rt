@@ -3,6 +3,9 @@ ghost use Rattle.std.specs.Prelude.{◌+◌, ◌*◌, ◌≤◌};
 
 pub const LONGEST_WORD: usize = 255;
 
+// The most check octets of a Reed-Solomon word.
+pub const MOST_CHECK: usize = 16;
+
 #[derive(Clone, Copy, PartialEq, Eq, Debug)]
 pub struct Sizes {
     // K, the octets of a frame
