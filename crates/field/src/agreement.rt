@@ -14,6 +14,7 @@ pub fn products_agree(a: u8, b: u8) -> bool
     same(Shifting::times(a, b), Table::times(a, b))
 }
 
+#[tactic(auto, unfolding(crate::specs::Binary::doubled, crate::specs::Binary::times_bits, crate::specs::Binary::reduced_times))]
 fn same(a: u8, b: u8) -> bool
     ensures test { result ≡ (a == b) }
     ensures sample { ProductSample }

@@ -3,6 +3,9 @@
 ghost use Rattle.std.specs.Prelude.{◌≡◌};
 ghost use Rattle.field.specs.Field.{Field as Arithmetic, Laws, power};
 
+// The elements of a field of octets.
+pub(crate) const OCTETS: usize = 256;
+
 pub trait Field: Sized {
     ghost field: { Arithmetic };
 

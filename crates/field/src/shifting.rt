@@ -4,14 +4,12 @@ ghost use Rattle.field.specs.Field.{power};
 ghost use Rattle.field.specs.Binary.{octets, doubled, reduced_times, reduced_inverse};
 ghost use Rattle.field.specs.Octets.{octet_laws};
 
-use crate::field::Field;
+use crate::field::{Field, OCTETS};
 
 // x^4 + x^3 + x^2 + 1, which x^8 is reduced to
 const REDUCED: u8 = 0x1d;
 
 const ALPHA: u8 = 2;
-
-const SIZE: usize = 256;
 
 pub struct Shifting;
 
@@ -21,7 +19,7 @@ impl Field for Shifting {
     ghost laws = { octet_laws };
 
     fn size() -> usize {
-        SIZE
+        OCTETS
     }
 
     fn times(a: u8, b: u8) -> u8 {
@@ -38,6 +36,7 @@ impl Field for Shifting {
 }
 
 // x times a.
+#[tactic(auto, using(crate::specs::Products::doubled_low), unfolding(crate::specs::Binary::doubled))]
 fn double(a: u8) -> u8
     ensures { result ≡ doubled 8 29 a }
 {
@@ -65,6 +64,7 @@ fn shift_and_add(a: u8, b: u8) -> u8
 }
 
 // Power 254 of a: after turn i `power` is power 2^i - 1.
+#[tactic(auto, unfolding(crate::specs::Field::raised))]
 fn next_to_last_power(a: u8) -> u8
     ensures { result ≡ reduced_inverse 8 29 a }
 {
@@ -75,6 +75,7 @@ fn next_to_last_power(a: u8) -> u8
     shift_and_add(power, power)
 }
 
+#[tactic(auto, unfolding(crate::specs::Field::raised))]
 fn repeated(k: u8) -> u8
     ensures { result ≡ power octets k }
 {

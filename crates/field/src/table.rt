@@ -4,9 +4,7 @@ ghost use Rattle.field.specs.Field.{power};
 ghost use Rattle.field.specs.Binary.{octets, reduced_times, reduced_inverse};
 ghost use Rattle.field.specs.Octets.{octet_laws};
 
-use crate::field::Field;
-
-const SIZE: usize = 256;
+use crate::field::{Field, OCTETS};
 
 // the powers 0 to 254 of alpha
 const POWERS: &[u8; 255] = b"\
@@ -54,7 +52,7 @@ impl Field for Table {
     ghost laws = { octet_laws };
 
     fn size() -> usize {
-        SIZE
+        OCTETS
     }
 
     fn times(a: u8, b: u8) -> u8 {
@@ -70,6 +68,7 @@ impl Field for Table {
     }
 }
 
+#[tactic(auto, using(crate::specs::Generators::powers_add, crate::specs::Octets::octets_generated, crate::specs::Octets::octet_laws, crate::proofs::Facts::times_zero, crate::proofs::Facts::zero_times))]
 fn by_logarithms(a: u8, b: u8) -> u8
     ensures { result ≡ reduced_times 8 29 a b }
 {
@@ -79,6 +78,7 @@ fn by_logarithms(a: u8, b: u8) -> u8
     power_of(logarithm(a) + logarithm(b))
 }
 
+#[tactic(auto, using(crate::specs::Generators::powers_add, crate::specs::Generators::powers_around, crate::specs::Octets::octets_generated, crate::specs::Octets::octet_laws, crate::proofs::Facts::inverse_unique))]
 fn power_back(a: u8) -> u8
     ensures { result ≡ reduced_inverse 8 29 a }
 {

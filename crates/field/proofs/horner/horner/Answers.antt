@@ -1,12 +1,8 @@
-use Rattle.std.proofs.Common.{◌≡◌, ℕ, suc, ◌+◌, get_or, take, sym, refl, ap, ◌∙◌, arith, take_all, take-suc}
+use Rattle.std.proofs.Common.{◌≡◌, ℕ, suc, ◌+◌, get_or, take, sym, refl, ap, ◌∙◌, arith, take-suc}
 use lib.Bits.{bit_xor}
 use Rattle.field.specs.Polynomials.{value_at}
-use Rattle.field.proofs.Facts.{times_zero, horner_step}
+use Rattle.field.proofs.Facts.{horner_step}
 use Rattle.field.proofs.horner.horner.Goals as goal
-
-pub loop-coefficient-init : goal.loop-coefficient-init
-unfolding value_at
-loop-coefficient-init g c = (times_zero g.F.Field.field g.met.F.Field.laws 1, refl, refl)
 
 pub loop-coefficient-preserved : goal.loop-coefficient-preserved
 loop-coefficient-preserved g c =
@@ -21,10 +17,3 @@ loop-coefficient-preserved g c =
       refl,
       refl,
     )
-
-pub returns : goal.returns
-returns g c =
-    c.times-2.ensures
-    ∙ c.loop-coefficient.invariant.0
-    ∙ ap (λ p. value_at g.F.Field.field p c.args.x)
-    (take_all c.loop-coefficient.coefficient-index c.args.polynomial.now c.loop-coefficient-test.false)

@@ -1,14 +1,10 @@
-use Rattle.std.proofs.Common.{◌≡◌, ℕ, suc, ◌+◌, ◌-◌, ◌*◌, ◌^◌, refl, ap, ◌∙◌, ap₂, pow-suc, arith, pow_pos}
+use Rattle.std.proofs.Common.{◌≡◌, ℕ, suc, ◌+◌, ◌-◌, ◌*◌, ◌^◌, ap, ◌∙◌, ap₂, pow-suc, arith, pow_pos}
 use Rattle.field.specs.Field.{raised}
 use Rattle.field.specs.Binary.{reduced_times, reduced_inverse}
 use Rattle.field.specs.Powers.{power_add}
 use Rattle.field.specs.Generators.{raisable}
 use Rattle.field.specs.Octets.{octets_generated}
 use Rattle.field.proofs.shifting.next_to_last_power.Goals as goal
-
-pub loop-init : goal.loop-init
-unfolding raised
-loop-init c = (omega arith, refl)
 
 pub loop-preserved : goal.loop-preserved
 unfolding raised

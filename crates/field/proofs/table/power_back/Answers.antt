@@ -1,15 +1,10 @@
-use Rattle.std.proofs.Common.{◌≡◌, ℕ, ◌+◌, ◌-◌, ◌%◌, sym, ap, ◌∙◌, ap₂, arith}
+use Rattle.std.proofs.Common.{◌≡◌, ℕ, ◌+◌, ◌-◌, sym, ap, ◌∙◌, ap₂, arith}
 use Rattle.field.specs.Field.{power, raised}
 use Rattle.field.specs.Binary.{octets, reduced_times}
 use Rattle.field.proofs.Facts.{inverse_unique}
 use Rattle.field.specs.Generators.{powers_add, powers_around}
 use Rattle.field.specs.Octets.{octets_generated, octet_laws}
 use Rattle.field.proofs.table.power_back.Goals as goal
-
-pub returns-then-a-eq0 : goal.returns-then-a-eq0
-returns-then-a-eq0 c =
-    let none : c.args.a % 256 ≡ 0 = omega (arith, c.if-a-eq0.true) in
-    sym (octet_laws.nothing_inverts c.args.a none)
 
 pub returns : goal.returns
 unfolding raised
