@@ -18,67 +18,64 @@ fn other(frame: usize, word: usize, repairs: usize) -> Result<Setting, Refusal> 
     Setting::new(Sizes::of_coder(frame, word, repairs)?, 1, 0)
 }
 
-// 0 where a setting is accepted
-fn number(answer: Result<Setting, Refusal>) -> u8 {
-    match answer {
-        Ok(_) => 0,
-        Err(refusal) => refusal.number(),
-    }
+// Accepted, or the refusal's number.
+fn judged(answer: Result<Setting, Refusal>) -> Result<(), u8> {
+    answer.map(|_| ()).map_err(|refusal| refusal.number())
 }
 
 #[test]
 fn settings_at_the_edges(rt: HostRuntime) {
-    // K, R, I, M and the refusal
+    // K, R, I, M, and accepted or the refusal
     let cases = [
-        (2, 4, 6, 0, 1),
-        (3, 2, 5, 0, 0),
-        (4, 1, 5, 0, 1),
-        (4, 18, 22, 0, 1),
-        (239, 16, 255, 0, 0),
-        (240, 16, 256, 0, 1),
-        (128, 16, 5, 1, 2),
-        (128, 16, 0, 1, 2),
-        (4, 4, 16, 1, 2),
-        (224, 16, 120, 2, 0),
-        (224, 16, 120, 3, 3),
-        (4, 4, 1, 255, 0),
-        (4, 4, 1, 256, 3),
-        (2, 4, 0, 256, 1),
-        (4, 4, 0, 256, 2),
-        (HUGE, 2, 1, 0, 1),
-        (3, HUGE, 1, 0, 1),
-        (HUGE, HUGE, HUGE, HUGE, 1),
-        (4, 4, HUGE, 0, 2),
-        (4, 4, 4, HUGE, 3),
+        (2, 4, 6, 0, Err(1)),
+        (3, 2, 5, 0, Ok(())),
+        (4, 1, 5, 0, Err(1)),
+        (4, 18, 22, 0, Err(1)),
+        (239, 16, 255, 0, Ok(())),
+        (240, 16, 256, 0, Err(1)),
+        (128, 16, 5, 1, Err(2)),
+        (128, 16, 0, 1, Err(2)),
+        (4, 4, 16, 1, Err(2)),
+        (224, 16, 120, 2, Ok(())),
+        (224, 16, 120, 3, Err(3)),
+        (4, 4, 1, 255, Ok(())),
+        (4, 4, 1, 256, Err(3)),
+        (2, 4, 0, 256, Err(1)),
+        (4, 4, 0, 256, Err(2)),
+        (HUGE, 2, 1, 0, Err(1)),
+        (3, HUGE, 1, 0, Err(1)),
+        (HUGE, HUGE, HUGE, HUGE, Err(1)),
+        (4, 4, HUGE, 0, Err(2)),
+        (4, 4, 4, HUGE, Err(3)),
     ];
-    for (frame, check, block, step, refusal) in cases {
-        assert_eq!(rt; number(reed_solomon(frame, check, block, step)), refusal);
+    for (frame, check, block, step, answer) in cases {
+        assert_eq!(rt; judged(reed_solomon(frame, check, block, step)), answer);
     }
 }
 
 #[test]
 fn sizes_of_other_coders(rt: HostRuntime) {
-    for (frame, check, refusal) in [
-        (2, 0, 1),
-        (3, 0, 0),
-        (85, 0, 0),
-        (86, 0, 1),
-        (3, 1, 1),
-        (HUGE, 0, 1),
+    for (frame, check, answer) in [
+        (2, 0, Err(1)),
+        (3, 0, Ok(())),
+        (85, 0, Ok(())),
+        (86, 0, Err(1)),
+        (3, 1, Err(1)),
+        (HUGE, 0, Err(1)),
     ] {
-        assert_eq!(rt; number(threefold(frame, check)), refusal);
+        assert_eq!(rt; judged(threefold(frame, check)), answer);
     }
-    for (frame, word, repairs, refusal) in [
-        (3, 3, 1, 0),
-        (3, 3, 2, 1),
-        (11, 15, 7, 0),
-        (11, 15, 8, 1),
-        (5, 4, 0, 1),
-        (2, 9, 1, 1),
-        (3, 256, 1, 1),
-        (3, 9, HUGE, 1),
+    for (frame, word, repairs, answer) in [
+        (3, 3, 1, Ok(())),
+        (3, 3, 2, Err(1)),
+        (11, 15, 7, Ok(())),
+        (11, 15, 8, Err(1)),
+        (5, 4, 0, Err(1)),
+        (2, 9, 1, Err(1)),
+        (3, 256, 1, Err(1)),
+        (3, 9, HUGE, Err(1)),
     ] {
-        assert_eq!(rt; number(other(frame, word, repairs)), refusal);
+        assert_eq!(rt; judged(other(frame, word, repairs)), answer);
     }
 }
 
