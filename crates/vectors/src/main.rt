@@ -12,19 +12,18 @@ mod coders;
 mod fault;
 mod fields;
 mod hex;
+mod question;
 mod tally;
 mod verdict;
 
 fn main(rt: HostRuntime) -> anyhow::Result<()> {
     let heap = rt.alloc();
     let mut tally = Tally::new(heap);
-    let mut number = 0u64;
-    for line in BufReader::new(heap, rt.stdin())?.split(heap, b'\n') {
-        number = number.saturating_add(1);
-        let verdict = Verdict::of(heap, line?.as_slice())?;
-        tally.take(&rt, number, verdict)?;
+    let lines = BufReader::new(heap, rt.stdin())?.split(heap, b'\n');
+    for (line, number) in lines.zip(1u64..) {
+        tally.take(&rt, number, Verdict::of(heap, line?.as_slice()))?;
     }
-    tally.print(&rt)?;
+    println!(rt; "{tally}")?;
     if tally.all_agreed() {
         Ok(())
     } else {

@@ -1,7 +1,8 @@
 // How many cases of each kind agreed.
+use crate::fault::Fault;
 use crate::verdict::Verdict;
 use std::alloc::{AllocError, Global};
-use std::io;
+use std::{fmt, io};
 
 #[derive(Drop)]
 struct Count {
@@ -12,7 +13,7 @@ struct Count {
 
 #[derive(Drop)]
 pub struct Tally {
-    // in the order in which the kinds first came
+    // Stays a list: the kinds are printed in the order in which they first came, which a map would lose.
     counts: Vec<Count>,
     malformed: u64,
 }
@@ -20,9 +21,7 @@ pub struct Tally {
 impl Count {
     fn add(&mut self, agrees: bool) {
         self.cases = self.cases.saturating_add(1);
-        if agrees {
-            self.agreed = self.agreed.saturating_add(1);
-        }
+        self.agreed = self.agreed.saturating_add(u64::from(agrees));
     }
 }
 
@@ -35,58 +34,64 @@ impl Tally {
     }
 
     fn count(&mut self, kind: String, agrees: bool) -> Result<(), AllocError> {
-        for count in self.counts.iter_mut() {
-            if count.kind == kind {
-                count.add(agrees);
-                return Ok(());
-            }
+        match self.counts.iter_mut().find(|count| count.kind == kind) {
+            Some(count) => count.add(agrees),
+            None => self.counts.push(Count {
+                kind,
+                agreed: u64::from(agrees),
+                cases: 1,
+            })?,
         }
-        let mut count = Count {
-            kind,
-            agreed: 0,
-            cases: 0,
-        };
-        count.add(agrees);
-        self.counts.push(count)?;
         Ok(())
     }
 
     // Counts the verdict on a line, and prints it if all is not well.
-    pub fn take(&mut self, rt: &impl Print, number: u64, verdict: Verdict) -> io::Result<()> {
+    pub fn take(
+        &mut self,
+        rt: &impl Print,
+        number: u64,
+        verdict: Result<Option<Verdict>, Fault>,
+    ) -> io::Result<()> {
         match verdict {
-            Verdict::Skipped => {}
-            Verdict::Malformed => {
+            Ok(None) => {}
+            Ok(Some(Verdict { kind, other })) => {
+                if let Some(other) = &other {
+                    println!(rt; "line {number}: {kind} disagrees: {other}")?;
+                }
+                self.count(kind, other.is_none())?;
+            }
+            Err(Fault::Malformed) => {
                 self.malformed = self.malformed.saturating_add(1);
                 println!(rt; "line {number}: malformed")?;
             }
-            Verdict::Agrees(kind) => self.count(kind, true)?,
-            Verdict::Disagrees(kind, other) => {
-                println!(rt; "line {number}: {kind} disagrees: {other}")?;
-                self.count(kind, false)?;
-            }
+            Err(Fault::NoMemory) => return Err(AllocError.into()),
         }
         Ok(())
     }
 
-    pub fn print(&self, rt: &impl Print) -> io::Result<()> {
+    pub fn all_agreed(&self) -> bool {
+        self.malformed == 0 && self.counts.iter().all(|count| count.agreed == count.cases)
+    }
+}
+
+impl fmt::Display for Count {
+    fn fmt<W: fmt::Write>(&self, f: &mut fmt::Formatter<W>) -> fmt::Result {
+        let Count {
+            kind,
+            agreed,
+            cases,
+        } = self;
+        write!(f, "{kind} {agreed} of {cases}")
+    }
+}
+
+// A line for each kind, and one for the malformed lines, without a line feed at the end.
+impl fmt::Display for Tally {
+    fn fmt<W: fmt::Write>(&self, f: &mut fmt::Formatter<W>) -> fmt::Result {
         for count in self.counts.iter() {
-            let Count {
-                kind,
-                agreed,
-                cases,
-            } = count;
-            println!(rt; "{kind} {agreed} of {cases}")?;
+            writeln!(f, "{count}")?;
         }
         let malformed = self.malformed;
-        println!(rt; "malformed {malformed}")
-    }
-
-    pub fn all_agreed(&self) -> bool {
-        for count in self.counts.iter() {
-            if count.agreed != count.cases {
-                return false;
-            }
-        }
-        self.malformed == 0
+        write!(f, "malformed {malformed}")
     }
 }
