@@ -2,6 +2,8 @@
 #![tactic(auto)]
 
 use anyhow::anyhow;
+use fault::Fault;
+use std::alloc::AllocError;
 use std::io::{BufRead, BufReader};
 use tally::Tally;
 use verdict::Verdict;
@@ -21,7 +23,12 @@ fn main(rt: HostRuntime) -> anyhow::Result<()> {
     let mut tally = Tally::new(heap);
     let lines = BufReader::new(heap, rt.stdin())?.split(heap, b'\n');
     for (line, number) in lines.zip(1u64..) {
-        tally.take(&rt, number, Verdict::of(heap, line?.as_slice()))?;
+        match Verdict::of(heap, line?.as_slice()) {
+            Ok(None) => {}
+            Ok(Some(verdict)) => tally.take(&rt, number, verdict)?,
+            Err(Fault::Malformed) => tally.take_malformed(&rt, number)?,
+            Err(Fault::NoMemory) => return Err(AllocError.into()),
+        }
     }
     println!(rt; "{tally}")?;
     if tally.all_agreed() {

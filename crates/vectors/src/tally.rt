@@ -1,5 +1,4 @@
 // How many cases of each kind agreed.
-use crate::fault::Fault;
 use crate::verdict::Verdict;
 use std::alloc::{AllocError, Global};
 use std::{fmt, io};
@@ -45,28 +44,20 @@ impl Tally {
         Ok(())
     }
 
-    // Counts the verdict on a line, and prints it if all is not well.
-    pub fn take(
-        &mut self,
-        rt: &impl Print,
-        number: u64,
-        verdict: Result<Option<Verdict>, Fault>,
-    ) -> io::Result<()> {
-        match verdict {
-            Ok(None) => {}
-            Ok(Some(Verdict { kind, other })) => {
-                if let Some(other) = &other {
-                    println!(rt; "line {number}: {kind} disagrees: {other}")?;
-                }
-                self.count(kind, other.is_none())?;
-            }
-            Err(Fault::Malformed) => {
-                self.malformed = self.malformed.saturating_add(1);
-                println!(rt; "line {number}: malformed")?;
-            }
-            Err(Fault::NoMemory) => return Err(AllocError.into()),
+    // Counts the verdict on a case, and prints it if the case disagrees.
+    pub fn take(&mut self, rt: &impl Print, number: u64, verdict: Verdict) -> io::Result<()> {
+        let Verdict { kind, other } = verdict;
+        if let Some(other) = &other {
+            println!(rt; "line {number}: {kind} disagrees: {other}")?;
         }
+        self.count(kind, other.is_none())?;
         Ok(())
+    }
+
+    // Counts a malformed line, and prints that it is.
+    pub fn take_malformed(&mut self, rt: &impl Print, number: u64) -> io::Result<()> {
+        self.malformed = self.malformed.saturating_add(1);
+        println!(rt; "line {number}: malformed")
     }
 
     pub fn all_agreed(&self) -> bool {
