@@ -23,7 +23,7 @@ pub struct Question {
 }
 
 impl Question {
-    // Makes the call, if there is a coder. A decoding gives how many octets were repaired, and all else a number.
+    // Makes the call, if there is a coder. A decoding gives how many octets were repaired, a refusal or a loss its number.
     fn put<C: Coder + Drop>(
         &self,
         coder: Result<C, Refusal>,
