@@ -13,7 +13,7 @@ pub struct Given {
 }
 
 // A refusal or a loss.
-// Stays a number: a test case may say one that no refusal has, which is no error in it but a case that disagrees.
+// Stays a number: a test case may say one that no refusal has, and such a line disagrees and is not malformed.
 #[derive(Clone, Copy, PartialEq, Eq)]
 pub enum Refused {
     Number(u8),
