@@ -1,36 +1,41 @@
-// What a call answered, or what a test case says that it answers.
+// What a call of a coder answered, or what a test case says that it answers.
 use crate::hex::Hex;
 use std::fmt;
-use std::fmt::Display;
 
-// The number of a loss.
-pub const LOSS: u8 = 8;
+pub type Answer = Result<Given, Refused>;
 
 #[derive(PartialEq, Eq, Drop)]
-pub enum Answer {
-    // the word of a message
-    Word(Vec<u8>),
-    // how many octets were repaired, and the message
-    Repaired(usize, Vec<u8>),
-    // a refusal or a loss
-    Number(u8),
-    // a refusal or a loss that wrote into a buffer, which it must not
-    Written(u8),
-    // a line of text
-    Line(String),
+pub struct Given {
+    // how many octets were repaired, if it was a decoding
+    pub repaired: Option<usize>,
+    // the word of a message, or the message of a word
+    pub octets: Vec<u8>,
 }
 
-impl fmt::Display for Answer {
+// A refusal or a loss.
+// Stays a number: a test case may say one that no refusal has, and such a line disagrees and is not malformed.
+#[derive(Clone, Copy, PartialEq, Eq)]
+pub enum Refused {
+    Number(u8),
+    // with a buffer written, which must stay as it was
+    Written(u8),
+}
+
+impl fmt::Display for Given {
+    fn fmt<W: fmt::Write>(&self, f: &mut fmt::Formatter<W>) -> fmt::Result {
+        if let Some(octets) = self.repaired {
+            write!(f, "repaired {octets} ")?;
+        }
+        let octets = Hex(self.octets.as_slice());
+        write!(f, "{octets}")
+    }
+}
+
+impl fmt::Display for Refused {
     fn fmt<W: fmt::Write>(&self, f: &mut fmt::Formatter<W>) -> fmt::Result {
         match self {
-            Answer::Word(word) => fmt::Display::fmt(&Hex(word.as_slice()), f),
-            Answer::Repaired(octets, message) => {
-                let message = Hex(message.as_slice());
-                write!(f, "repaired {octets} {message}")
-            }
-            Answer::Number(number) => write!(f, "number {number}"),
-            Answer::Written(number) => write!(f, "number {number}, and wrote"),
-            Answer::Line(line) => f.write_str(line.as_str()),
+            Refused::Number(number) => write!(f, "number {number}"),
+            Refused::Written(number) => write!(f, "number {number}, and wrote"),
         }
     }
 }

@@ -1,18 +1,27 @@
-// The kinds of test cases, a function for each. It reads the fields of a line, asks, and gives back the answer that was
-// another than the line says, if there was one.
-use crate::answer::{Answer, LOSS};
-use crate::coders::{Named, Question};
+// The kinds of test cases, a function for each that reads the fields of a line.
+use crate::answer::{Answer, Given, Refused};
+use crate::coders::Named;
 use crate::fault::Fault;
 use crate::fields::Fields;
+use crate::question::{Call, Question};
+use coder::{Kind, Undecoded};
 use installer::text::line;
-use std::alloc::Global;
+use std::alloc::{AllocError, Global};
+use std::array::try_from_fn;
 
-// The table of kinds.
-pub fn judge(heap: Global, kind: &str, fields: &mut Fields<'_>) -> Result<Option<Answer>, Fault> {
+// A question to a coder, and the answer that is said to come.
+#[derive(Drop)]
+struct Case {
+    question: Question,
+    said: Answer,
+}
+
+// The table of kinds. Gives the answer that was another than the line says, if there was one.
+pub fn judge(heap: Global, kind: &str, fields: &mut Fields<'_>) -> Result<Option<String>, Fault> {
     match kind {
-        "word" => word(heap, fields),
-        "decode" => decode(heap, fields),
-        "refuse" => refuse(heap, fields),
+        "word" => coding(heap, fields, word),
+        "decode" => coding(heap, fields, decode),
+        "refuse" => coding(heap, fields, refuse),
         "setting" => setting(heap, fields),
         _ => Err(Fault::Malformed),
     }
@@ -20,67 +29,104 @@ pub fn judge(heap: Global, kind: &str, fields: &mut Fields<'_>) -> Result<Option
 
 // CODER K R
 fn named(fields: &mut Fields<'_>) -> Result<Named, Fault> {
-    let coder = fields.number()?;
-    let frame = fields.number()?;
-    let check = fields.number()?;
-    Named::new(coder, frame, check).ok_or(Fault::Malformed)
+    let kind = fields.number::<u8>()?;
+    Ok(Named {
+        kind: Kind::try_from(kind).map_err(|_| Fault::Malformed)?,
+        frame: fields.number()?,
+        check: fields.number()?,
+    })
 }
 
-// CODER K R MESSAGE WORD
-fn word(heap: Global, fields: &mut Fields<'_>) -> Result<Option<Answer>, Fault> {
+fn text(heap: Global, answer: Answer) -> Result<String, AllocError> {
+    match answer {
+        Ok(given) => format!(in heap; "{given}"),
+        Err(refused) => format!(in heap; "{refused}"),
+    }
+}
+
+// CODER K R and what `read` reads
+fn coding<F: FnOnce(Global, Named, &mut Fields<'_>) -> Result<Vec<Case>, Fault>>(
+    heap: Global,
+    fields: &mut Fields<'_>,
+    read: F,
+) -> Result<Option<String>, Fault>
+    requires { F.IsAlwaysCallable read }
+{
     let coder = named(fields)?;
-    let message = fields.octets(heap)?;
-    let word = fields.octets(heap)?;
+    let cases = read(heap, coder, fields)?;
     fields.end()?;
-    let question = Question::Encode(message, word.len());
-    Ok(coder.other_answer(heap, &question, &Answer::Word(word))?)
+    for case in cases {
+        if let Some(other) = coder.other_answer(heap, &case.question, &case.said)? {
+            return Ok(Some(text(heap, other)?));
+        }
+    }
+    Ok(None)
+}
+
+// MESSAGE WORD
+fn word(heap: Global, _coder: Named, fields: &mut Fields<'_>) -> Result<Vec<Case>, Fault> {
+    let message = fields.octets(heap)?;
+    let octets = fields.octets(heap)?;
+    let question = Question {
+        call: Call::Encode,
+        octets: message,
+        length: octets.len(),
+    };
+    let said = Ok(Given {
+        repaired: None,
+        octets,
+    });
+    Ok(vec![in heap; Case { question, said }]?)
 }
 
 // repaired D MESSAGE, or lost
 fn decoding(heap: Global, fields: &mut Fields<'_>) -> Result<Answer, Fault> {
     match fields.text()? {
-        "repaired" => Ok(Answer::Repaired(fields.number()?, fields.octets(heap)?)),
-        "lost" => Ok(Answer::Number(LOSS)),
+        "repaired" => Ok(Ok(Given {
+            repaired: Some(fields.number()?),
+            octets: fields.octets(heap)?,
+        })),
+        "lost" => Ok(Err(Refused::Number(Undecoded::Lost.number()))),
         _ => Err(Fault::Malformed),
     }
 }
 
-// CODER K R RECEIVED and the decoding
-fn decode(heap: Global, fields: &mut Fields<'_>) -> Result<Option<Answer>, Fault> {
-    let coder = named(fields)?;
-    let received = fields.octets(heap)?;
+// RECEIVED and the decoding
+fn decode(heap: Global, coder: Named, fields: &mut Fields<'_>) -> Result<Vec<Case>, Fault> {
+    let question = Question {
+        call: Call::Decode,
+        octets: fields.octets(heap)?,
+        length: coder.frame,
+    };
     let said = decoding(heap, fields)?;
-    fields.end()?;
-    let question = Question::Decode(received, coder.frame);
-    Ok(coder.other_answer(heap, &question, &said)?)
+    Ok(vec![in heap; Case { question, said }]?)
 }
 
-// CODER K R MESSAGELEN WORDLEN NUMBER
-fn refuse(heap: Global, fields: &mut Fields<'_>) -> Result<Option<Answer>, Fault> {
-    let coder = named(fields)?;
+// MESSAGELEN WORDLEN NUMBER
+fn refuse(heap: Global, _coder: Named, fields: &mut Fields<'_>) -> Result<Vec<Case>, Fault> {
     let message = fields.number()?;
     let word = fields.number()?;
-    let said = Answer::Number(fields.octet()?);
-    fields.end()?;
-    let encoding = Question::Encode(vec![in heap; 0; message]?, word);
-    let decoding = Question::Decode(vec![in heap; 0; word]?, message);
-    let other = coder.other_answer(heap, &encoding, &said)?;
-    if other.is_some() {
-        return Ok(other);
-    }
-    Ok(coder.other_answer(heap, &decoding, &said)?)
+    let number = fields.number()?;
+    let refused = |call, octets, length| -> Result<Case, AllocError> {
+        Ok(Case {
+            question: Question {
+                call,
+                octets: vec![in heap; 0; octets]?,
+                length,
+            },
+            said: Err(Refused::Number(number)),
+        })
+    };
+    Ok(vec![in heap;
+        refused(Call::Encode, message, word)?,
+        refused(Call::Decode, word, message)?,
+    ]?)
 }
 
 // CODER K R I M and the line that is printed
-fn setting(heap: Global, fields: &mut Fields<'_>) -> Result<Option<Answer>, Fault> {
-    let mut octets = Vec::new(heap);
-    for _ in 0..5u8 {
-        octets.push(fields.octet()?)?;
-    }
+fn setting(heap: Global, fields: &mut Fields<'_>) -> Result<Option<String>, Fault> {
+    let octets: [u8; 5] = try_from_fn(|_| fields.number())?;
     let said = fields.remainder()?;
     let printed = line(heap, octets.as_slice())?;
-    if printed.as_str() == said {
-        return Ok(None);
-    }
-    Ok(Some(Answer::Line(printed)))
+    Ok((printed.as_str() != said).then_some(printed))
 }

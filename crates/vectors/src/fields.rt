@@ -15,35 +15,25 @@ impl<'a> Fields<'a> {
     }
 
     pub fn text(&mut self) -> Result<&'a str, Fault> {
-        let Some(rest) = self.rest else {
-            return Err(Fault::Malformed);
-        };
+        let rest = self.remainder()?;
         let Some((field, behind)) = rest.split_once(' ') else {
-            self.rest = None;
             return Ok(rest);
         };
         self.rest = Some(behind);
         Ok(field)
     }
 
-    // A decimal number that 16 bits hold, so that it can be a buffer's length.
-    pub fn number(&mut self) -> Result<usize, Fault> {
+    // A decimal number that 16 bits hold, so that it can be a buffer's length, and that the type asked for holds.
+    pub fn number<N: TryFrom<u16>>(&mut self) -> Result<N, Fault>
+    where
+        N::Error: Drop,
+    {
         let field = self.text()?;
         if field.starts_with('+') {
             return Err(Fault::Malformed);
         }
-        match field.parse::<u16>() {
-            Ok(number) => Ok(usize::from(number)),
-            Err(_) => Err(Fault::Malformed),
-        }
-    }
-
-    // A decimal number from 0 to 255.
-    pub fn octet(&mut self) -> Result<u8, Fault> {
-        match u8::try_from(self.number()?) {
-            Ok(octet) => Ok(octet),
-            Err(_) => Err(Fault::Malformed),
-        }
+        let number = field.parse::<u16>().map_err(|_| Fault::Malformed)?;
+        N::try_from(number).map_err(|_| Fault::Malformed)
     }
 
     pub fn octets(&mut self, heap: Global) -> Result<Vec<u8>, Fault> {

@@ -13,21 +13,19 @@ fn digit(character: u8) -> Result<u8, Fault> {
     }
 }
 
-pub fn read_octets(heap: Global, text: &str) -> Result<Vec<u8>, Fault> {
-    let mut octets = Vec::new(heap);
-    if text == NO_OCTETS {
-        return Ok(octets);
-    }
-    if text.is_empty() {
+fn octet(pair: &[u8]) -> Result<u8, Fault> {
+    let [high, low] = pair else {
         return Err(Fault::Malformed);
+    };
+    Ok(digit(*high)? << 4 | digit(*low)?)
+}
+
+pub fn read_octets(heap: Global, text: &str) -> Result<Vec<u8>, Fault> {
+    match text {
+        NO_OCTETS => Ok(Vec::new(heap)),
+        "" => Err(Fault::Malformed),
+        _ => text.as_bytes().chunks(2).map(octet).try_collect(heap),
     }
-    for pair in text.as_bytes().chunks(2) {
-        let [high, low] = pair else {
-            return Err(Fault::Malformed);
-        };
-        octets.push(digit(*high)? << 4 | digit(*low)?)?;
-    }
-    Ok(octets)
 }
 
 // Octets to be printed.

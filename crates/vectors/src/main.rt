@@ -2,6 +2,8 @@
 #![tactic(auto)]
 
 use anyhow::anyhow;
+use fault::Fault;
+use std::alloc::AllocError;
 use std::io::{BufRead, BufReader};
 use tally::Tally;
 use verdict::Verdict;
@@ -12,19 +14,23 @@ mod coders;
 mod fault;
 mod fields;
 mod hex;
+mod question;
 mod tally;
 mod verdict;
 
 fn main(rt: HostRuntime) -> anyhow::Result<()> {
     let heap = rt.alloc();
     let mut tally = Tally::new(heap);
-    let mut number = 0u64;
-    for line in BufReader::new(heap, rt.stdin())?.split(heap, b'\n') {
-        number = number.saturating_add(1);
-        let verdict = Verdict::of(heap, line?.as_slice())?;
-        tally.take(&rt, number, verdict)?;
+    let lines = BufReader::new(heap, rt.stdin())?.split(heap, b'\n');
+    for (line, number) in lines.zip(1u64..) {
+        match Verdict::of(heap, line?.as_slice()) {
+            Ok(None) => {}
+            Ok(Some(verdict)) => tally.take(&rt, number, verdict)?,
+            Err(Fault::Malformed) => tally.take_malformed(&rt, number)?,
+            Err(Fault::NoMemory) => return Err(AllocError.into()),
+        }
     }
-    tally.print(&rt)?;
+    println!(rt; "{tally}")?;
     if tally.all_agreed() {
         Ok(())
     } else {

@@ -1,7 +1,7 @@
 // How many cases of each kind agreed.
 use crate::verdict::Verdict;
 use std::alloc::{AllocError, Global};
-use std::io;
+use std::{fmt, io};
 
 #[derive(Drop)]
 struct Count {
@@ -12,7 +12,7 @@ struct Count {
 
 #[derive(Drop)]
 pub struct Tally {
-    // in the order in which the kinds first came
+    // Stays a list: the kinds are printed in the order in which they first came, which a map would lose.
     counts: Vec<Count>,
     malformed: u64,
 }
@@ -20,9 +20,7 @@ pub struct Tally {
 impl Count {
     fn add(&mut self, agrees: bool) {
         self.cases = self.cases.saturating_add(1);
-        if agrees {
-            self.agreed = self.agreed.saturating_add(1);
-        }
+        self.agreed = self.agreed.saturating_add(u64::from(agrees));
     }
 }
 
@@ -35,58 +33,56 @@ impl Tally {
     }
 
     fn count(&mut self, kind: String, agrees: bool) -> Result<(), AllocError> {
-        for count in self.counts.iter_mut() {
-            if count.kind == kind {
-                count.add(agrees);
-                return Ok(());
-            }
-        }
-        let mut count = Count {
-            kind,
-            agreed: 0,
-            cases: 0,
-        };
-        count.add(agrees);
-        self.counts.push(count)?;
-        Ok(())
-    }
-
-    // Counts the verdict on a line, and prints it if all is not well.
-    pub fn take(&mut self, rt: &impl Print, number: u64, verdict: Verdict) -> io::Result<()> {
-        match verdict {
-            Verdict::Skipped => {}
-            Verdict::Malformed => {
-                self.malformed = self.malformed.saturating_add(1);
-                println!(rt; "line {number}: malformed")?;
-            }
-            Verdict::Agrees(kind) => self.count(kind, true)?,
-            Verdict::Disagrees(kind, other) => {
-                println!(rt; "line {number}: {kind} disagrees: {other}")?;
-                self.count(kind, false)?;
-            }
-        }
-        Ok(())
-    }
-
-    pub fn print(&self, rt: &impl Print) -> io::Result<()> {
-        for count in self.counts.iter() {
-            let Count {
+        match self.counts.iter_mut().find(|count| count.kind == kind) {
+            Some(count) => count.add(agrees),
+            None => self.counts.push(Count {
                 kind,
-                agreed,
-                cases,
-            } = count;
-            println!(rt; "{kind} {agreed} of {cases}")?;
+                agreed: u64::from(agrees),
+                cases: 1,
+            })?,
         }
-        let malformed = self.malformed;
-        println!(rt; "malformed {malformed}")
+        Ok(())
+    }
+
+    // Counts the verdict on a case, and prints it if the case disagrees.
+    pub fn take(&mut self, rt: &impl Print, number: u64, verdict: Verdict) -> io::Result<()> {
+        let Verdict { kind, other } = verdict;
+        if let Some(other) = &other {
+            println!(rt; "line {number}: {kind} disagrees: {other}")?;
+        }
+        self.count(kind, other.is_none())?;
+        Ok(())
+    }
+
+    // Counts a malformed line, and prints that it is.
+    pub fn take_malformed(&mut self, rt: &impl Print, number: u64) -> io::Result<()> {
+        self.malformed = self.malformed.saturating_add(1);
+        println!(rt; "line {number}: malformed")
     }
 
     pub fn all_agreed(&self) -> bool {
+        self.malformed == 0 && self.counts.iter().all(|count| count.agreed == count.cases)
+    }
+}
+
+impl fmt::Display for Count {
+    fn fmt<W: fmt::Write>(&self, f: &mut fmt::Formatter<W>) -> fmt::Result {
+        let Count {
+            kind,
+            agreed,
+            cases,
+        } = self;
+        write!(f, "{kind} {agreed} of {cases}")
+    }
+}
+
+// A line for each kind, and one for the malformed lines, without a line feed at the end.
+impl fmt::Display for Tally {
+    fn fmt<W: fmt::Write>(&self, f: &mut fmt::Formatter<W>) -> fmt::Result {
         for count in self.counts.iter() {
-            if count.agreed != count.cases {
-                return false;
-            }
+            writeln!(f, "{count}")?;
         }
-        self.malformed == 0
+        let malformed = self.malformed;
+        write!(f, "malformed {malformed}")
     }
 }
