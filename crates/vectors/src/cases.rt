@@ -17,6 +17,7 @@ struct Case {
 }
 
 // The table of kinds. Gives the answer that was another than the line says, if there was one.
+// Stays a match: a kind is a name in the input, and a table of functions by name would hand out function pointers.
 pub fn judge(heap: Global, kind: &str, fields: &mut Fields<'_>) -> Result<Option<String>, Fault> {
     match kind {
         "word" => coding(heap, fields, word),
