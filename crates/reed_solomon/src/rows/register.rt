@@ -6,7 +6,10 @@ ghost use Rattle.rs_algebra.specs.Polynomials.{generator};
 ghost use Rattle.rs_algebra.specs.Words.{check_of, register_step};
 ghost use Rattle.reed_solomon.specs.Rows.{packed};
 
+use crate::checks::Checks;
+use crate::reed_solomon::ReedSolomon;
 use crate::rows::row_coder::RowCoder;
+use field::Table;
 
 // The highest octet.
 fn top(register: u128) -> u8
@@ -53,13 +56,18 @@ impl RowCoder {
         }
         register
     }
+}
 
-    // Writes the check octets of a message.
-    pub(crate) fn check_octets(&self, message: &[u8], out: &mut [u8])
-        requires { length out.old ≡ self.now.plain.check }
-        ensures check { out.new ≡ check_of octets (length out.old) message.now }
-        ensures octets { Octets message.now }
-    {
+impl Checks for RowCoder {
+    type Over = Table;
+
+    ghost numbers = { λ s. s.plain };
+
+    fn numbers(&self) -> &ReedSolomon<Table> {
+        &self.plain
+    }
+
+    fn check_octets(&self, message: &[u8], out: &mut [u8]) {
         unpack(self.register_of(message), out);
     }
 }
