@@ -1,6 +1,5 @@
 // What computes the check octets of messages for a coder: a register over its field, or a table of rows.
 ghost use Rattle.std.specs.Prelude.{◌≡◌, length};
-ghost use Rattle.coder.specs.Codes.{Octets};
 ghost use Rattle.rs_algebra.specs.Words.{check_of};
 ghost use Rattle.reed_solomon.specs.declared.reed_solomon.ReedSolomon.{ReedSolomon as Numbers};
 
@@ -20,8 +19,7 @@ pub(crate) trait Checks: Sized {
     // Writes the check octets of a message.
     fn check_octets(&self, message: &[u8], out: &mut [u8])
         requires { length out.old ≡ (numbers self.now).check }
-        ensures check { out.new ≡ check_of Self.Over.field (length out.old) message.now }
-        ensures octets { Octets message.now };
+        ensures { out.new ≡ check_of Self.Over.field (length out.old) message.now };
 }
 
 impl<F: OctetField> Checks for ReedSolomon<F> {

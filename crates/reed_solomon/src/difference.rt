@@ -1,6 +1,5 @@
 // How far the check octets received are from those of the octets before them.
 ghost use Rattle.std.specs.Prelude.{◌≡◌, ◌+◌, length};
-ghost use Rattle.coder.specs.Codes.{Octets};
 ghost use Rattle.rs_algebra.specs.Polynomials.{plus};
 ghost use Rattle.rs_algebra.specs.Words.{check_difference};
 
@@ -26,8 +25,7 @@ pub(crate) fn check_difference<C: Checks>(
     difference: &mut [u8],
 )
     requires { (length difference.old ≡ (C.numbers coder.now).check) × (length received.now ≡ frame + length difference.old) }
-    ensures value { difference.new ≡ check_difference C.Over.Field.field frame (length difference.old) received.now }
-    ensures octets { Octets received.now }
+    ensures { difference.new ≡ check_difference C.Over.Field.field frame (length difference.old) received.now }
 {
     coder.check_octets(&received[..frame], difference);
     add(difference, &received[frame..]);

@@ -47,11 +47,10 @@ impl RowCoder {
 
     // The register after a message.
     fn register_of(&self, message: &[u8]) -> u128
-        ensures check { result ≡ packed 16 (check_of octets self.now.plain.check message.now) }
-        ensures octets { Octets message.now }
+        ensures { result ≡ packed 16 (check_of octets self.now.plain.check message.now) }
     {
         let mut register = 0;
-        for octet in message.iter() {
+        for octet in message {
             register = self.feed(register, *octet);
         }
         register

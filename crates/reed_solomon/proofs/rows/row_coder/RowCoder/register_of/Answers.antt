@@ -15,7 +15,5 @@ loop-octet-preserved c =
     ∙ ap (packed 16) (after_more R m i c.loop-octet-test.true)
 
 pub returns : goal.returns
-returns c = record {
-  check = c.loop-octet.invariant ∙ ap (packed 16) (after_all c.args.self.now.plain.check c.args.message.now c.loop-octet.octet-index c.loop-octet-test.false);
-  octets = λ k. (c.type_inv.message k).fits;
-}
+returns c =
+    c.loop-octet.invariant ∙ ap (packed 16) (after_all c.args.self.now.plain.check c.args.message.now c.loop-octet.octet-index c.loop-octet-test.false)
