@@ -63,6 +63,6 @@ pub(crate) fn decode<C: Checks>(
     numbers.sizes.fits(message, received)?;
     let mut difference = [0; MOST_CHECK];
     let difference = &mut difference[..numbers.check];
-    check_difference(coder, received, message.len(), difference);
+    check_difference(coder, received, difference);
     decode_difference::<C::Over>(received, difference, message).ok_or(Undecoded::Lost)
 }
