@@ -10,6 +10,7 @@ use crate::decoding::decode;
 use crate::rows::row_coder::RowCoder;
 use coder::{Coder, Misfit, Sizes, Undecoded};
 
+// Stays beside the impl for ReedSolomon: `impl<C: Checks> Coder for C` would be one, but no impl of another crate's trait may stand for every type.
 impl Coder for RowCoder {
     ghost code = { λ s. code_of s };
 
