@@ -25,17 +25,6 @@ fn feedback(register: u128, octet: u8) -> u8
     top(register) ^ octet
 }
 
-// Writes as many octets as there is room for, from the highest down.
-fn unpack(register: u128, out: &mut [u8])
-    ensures { (xs : List ℕ) → Octets xs → length xs ≤ 16 → length xs ≡ length out.old → register ≡ packed 16 xs → out.new ≡ xs }
-{
-    let mut left = register;
-    for octet in out.iter_mut() {
-        *octet = top(left);
-        left <<= 8;
-    }
-}
-
 impl RowCoder {
     // One octet of the message: the register moves up one place, and the row of what is fed back is added.
     fn feed(&self, register: u128, octet: u8) -> u128
@@ -67,6 +56,7 @@ impl Checks for RowCoder {
     }
 
     fn check_octets(&self, message: &[u8], out: &mut [u8]) {
-        unpack(self.register_of(message), out);
+        let register = self.register_of(message);
+        out.copy_from_slice(&register.to_be_bytes()[..out.len()]);
     }
 }
