@@ -1,10 +1,8 @@
 // The check octets of a message, by a register that is one number: its first octet is the highest.
-ghost use Rattle.std.specs.Prelude.{◌≡◌, ℕ, ◌/◌, ◌^◌, ◌≤◌, List, length, bit_xor};
-ghost use Rattle.coder.specs.Codes.{Octets};
+ghost use Rattle.std.specs.Prelude.{◌≡◌, ◌/◌, ◌^◌, bit_xor};
 ghost use Rattle.field.specs.Binary.{octets};
-ghost use Rattle.rs_algebra.specs.Polynomials.{generator};
-ghost use Rattle.rs_algebra.specs.Words.{check_of, register_step};
-ghost use Rattle.reed_solomon.specs.Rows.{packed};
+ghost use Rattle.rs_algebra.specs.Words.{check_of};
+ghost use Rattle.reed_solomon.specs.Rows.{packed, fed_back};
 
 use crate::checks::Checks;
 use crate::reed_solomon::ReedSolomon;
@@ -28,7 +26,7 @@ fn feedback(register: u128, octet: u8) -> u8
 impl RowCoder {
     // One octet of the message: the register moves up one place, and the row of what is fed back is added.
     fn feed(&self, register: u128, octet: u8) -> u128
-        ensures { (reg : List ℕ) → Octets reg → length reg ≤ 16 → register ≡ packed 16 reg → result ≡ packed 16 (register_step octets (generator octets self.now.plain.check) reg octet) }
+        ensures { result ≡ fed_back self.now.rows register octet }
     {
         let back = feedback(register, octet);
         register << 8 ^ self.rows[back as usize]
@@ -38,11 +36,9 @@ impl RowCoder {
     fn register_of(&self, message: &[u8]) -> u128
         ensures { result ≡ packed 16 (check_of octets self.now.plain.check message.now) }
     {
-        let mut register = 0;
-        for octet in message {
-            register = self.feed(register, *octet);
-        }
-        register
+        message
+            .iter()
+            .fold(0, |register, octet| self.feed(register, *octet))
     }
 }
 
