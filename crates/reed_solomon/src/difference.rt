@@ -6,6 +6,7 @@ ghost use Rattle.rs_algebra.specs.Words.{check_difference};
 use crate::checks::Checks;
 
 // Adds octets, place by place.
+#[tactic(auto, using(crate::proofs::Sums::sum_more, crate::proofs::Sums::sum_done))]
 fn add(sum: &mut [u8], octets: &[u8])
     requires { length sum.old ≡ length octets.now }
     ensures { sum.new ≡ plus sum.old octets.now }
