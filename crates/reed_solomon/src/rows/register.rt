@@ -9,18 +9,11 @@ use crate::reed_solomon::ReedSolomon;
 use crate::rows::row_coder::RowCoder;
 use field::Table;
 
-// The highest octet.
-fn top(register: u128) -> u8
-    ensures { result ≡ register / 2 ^ 120 }
-{
-    (register >> 120) as u8
-}
-
-// What moves out of the register, with an octet of the message added.
+// What moves out of the register, its highest octet, with an octet of the message added.
 fn feedback(register: u128, octet: u8) -> u8
     ensures { result ≡ bit_xor (register / 2 ^ 120) octet }
 {
-    top(register) ^ octet
+    (register >> 120) as u8 ^ octet
 }
 
 impl RowCoder {
