@@ -4,11 +4,13 @@
 pub mod agreement;
 pub mod field;
 pub mod horner;
+pub mod octet_field;
 pub mod shifting;
 pub mod table;
 
 pub use field::Field;
 pub use horner::value_at;
+pub use octet_field::OctetField;
 pub use shifting::Shifting;
 pub use table::Table;
 

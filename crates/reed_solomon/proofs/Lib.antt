@@ -1,6 +1,5 @@
 pub mod Generators
 pub mod Registers
-pub mod Words
 pub mod Sums
 pub mod Nearness
 pub mod Samples

@@ -1,8 +1,10 @@
 -- Answers of a decoder over a field, and over octets. Assumes nothing.
-use Rattle.std.proofs.Common.{◌≡◌, ℕ, ◌+◌, ◌<◌, ◌≤◌, ◌⊎◌, List, [], ◌∷◌, length, get_or, take, Some, None, Ok, Err, Option, sym, refl, ap, ◌∙◌, inl, inr, arith}
+use Rattle.std.proofs.Common.{◌≡◌, ℕ, zero, suc, ◌+◌, true, List, [], ◌∷◌, length, get_or, take, Some, None, Ok, Err, Option, sym, refl, ap, ◌∙◌, arith}
+use Rattle.std.specs.Prelude.{◌==◌}
+use Rattle.std.specs.List.{list_all}
 use Prim.{tt}
-use Rattle.std.proofs.lemmas.List.{get_or_past, length-take-le}
-use Rattle.std.proofs.lemmas.Bool.{cases_lt, eq-eqb}
+use Rattle.std.proofs.lemmas.List.{length-take-le}
+use Rattle.std.proofs.lemmas.Bool.{and_parts, eq-eqb, eqb-true}
 use Rattle.coder.specs.declared.undecoded.Undecoded.TheVariants.{Lost}
 use Rattle.coder.specs.Codes.{Octets, Decoded, fitting}
 use Rattle.field.specs.Field.{Field, Laws}
@@ -20,30 +22,25 @@ unfolding distance
 no_distance [] = refl
 no_distance (x ∷ a) = rw (eq-eqb x x refl) (omega (arith, no_distance a))
 
--- past its end a list reads 0
-pub nothing_else : (xs : List ℕ) (i : ℕ) → length xs ≤ i → ((k : ℕ) → k < i → get_or xs k 0 ≡ 0) → (k : ℕ) → get_or xs k 0 ≡ 0
-nothing_else xs i all none k = go (cases_lt k i)
-  where
-    go : (k < i) ⊎ (i ≤ k) → get_or xs k 0 ≡ 0
-    go (inl h) = none k h
-    go (inr h) = get_or_past xs k 0 (omega arith)
+-- where every octet is 0, each reads 0
+zero_reads : (xs : List ℕ) → list_all (λ octet. octet == 0) xs ≡ true → (k : ℕ) → get_or xs k 0 ≡ 0
+zero_reads [] all k = refl
+zero_reads (x ∷ xs) all zero = eqb-true x 0 (and_parts (x == 0) (list_all (λ octet. octet == 0) xs) all).0
+zero_reads (x ∷ xs) all (suc k) = zero_reads xs (and_parts (x == 0) (list_all (λ octet. octet == 0) xs) all).1 k
 
 module _ (f : Field) (laws : Laws f) (K R : ℕ) (received : List ℕ) where
   -- a word with no check difference is that of its first octets
-  pub clean : (difference : List ℕ) (n : ℕ) → difference ≡ check_difference f K n received → n ≡ R → ((k : ℕ) → get_or difference k 0 ≡ 0)
+  pub clean : (difference : List ℕ) → difference ≡ check_difference f K R received → list_all (λ octet. octet == 0) difference ≡ true
       → length received ≡ K + R → Elements f received → NearWord f K R received (take K received) 0
-  clean difference n is same none long e = record {
+  clean difference is none long e = record {
     long = length-take-le K received (omega arith);
     elements = take_elements f laws K received e;
     differing = ap (distance (word_of f R (take K received))) word ∙ no_distance (word_of f R (take K received));
     within = omega arith;
   }
     where
-      zero_at : (k : ℕ) → get_or (check_difference f K R received) k 0 ≡ 0
-      zero_at k = ap (λ d. get_or d k 0) (ap (λ r. check_difference f K r received) (sym same) ∙ sym is) ∙ none k
-
       word : received ≡ word_of f R (take K received)
-      word = difference_none f laws K R received long (λ k h. zero_at k)
+      word = difference_none f laws K R received long (λ k h. ap (λ d. get_or d k 0) (sym is) ∙ zero_reads difference none k)
 
   -- the same over octets, where all octets are elements: the code's relation
   module _ (size : f.size ≡ 256) (before : List ℕ) (long : length before ≡ K) (whole : length received ≡ K + R) (octets : Octets received) where

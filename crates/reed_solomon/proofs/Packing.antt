@@ -1,5 +1,7 @@
 -- Octets packed into one number. Assumes nothing.
-use Rattle.std.proofs.Common.{◌≡◌, ℕ, zero, suc, ◌+◌, ◌*◌, ◌/◌, ◌%◌, ◌^◌, ◌<◌, ◌≤◌, List, [], ◌∷◌, ◌++◌, length, get_or, drop, refl, ap, ◌∙◌, mul_left_comm, arith}
+use Rattle.std.proofs.Common.{◌≡◌, ℕ, zero, suc, ◌+◌, ◌*◌, ◌/◌, ◌%◌, ◌^◌, ◌<◌, ◌≤◌, List, [], ◌∷◌, ◌++◌, length, get_or, take, drop, sym, refl, ap, ◌∙◌, ap₂, mul_comm, mul_left_comm, arith}
+use Rattle.std.proofs.Math.Nat.{mul-add-div_right, pow-suc}
+use Rattle.std.specs.Int.{byte_at, bytes_high_first}
 use native.Mathlib.Nat.{zero-div, zero-mod}
 use lib.Bits.{bit_xor, xor_block, xor_zero_l, xor_zero_r}
 use Rattle.std.proofs.lemmas.Nat.{pow_pos, pow-add, mul-add-lt, shr_high, mod_low}
@@ -80,3 +82,41 @@ packed_down zero [] o = refl
 packed_down zero (x ∷ xs) o = omega (arith, o 0)
 packed_down (suc n) [] o = refl
 packed_down (suc n) (x ∷ xs) o = omega (arith, times_next x n, packed_down n xs (tail x xs o))
+
+-- the bytes of a number: byte k is worth 2^(8k)
+byte_worth : (k : ℕ) → 256 ^ k ≡ 2 ^ (8 * k)
+byte_worth zero = refl
+byte_worth (suc k) = pow-suc 256 k ∙ ap (λ p. p * 256) (byte_worth k) ∙ mul_comm (2 ^ (8 * k)) 256 ∙ sym (next_power k)
+
+byte_of : (k n : ℕ) → byte_at k n ≡ n / 2 ^ (8 * k) % 256
+byte_of zero n = omega arith
+byte_of (suc k) n = ap (λ p. n / p % 256) (byte_worth (suc k))
+
+-- what is above the lowest bytes makes no difference to them
+lower_byte : (k high low : ℕ) → byte_at k (high * 2 ^ (8 * suc k) + low) ≡ byte_at k low
+lower_byte k high low =
+    let split : high * 2 ^ (8 * suc k) + low ≡ high * 256 * 2 ^ (8 * k) + low = omega (arith, times_next high k) in
+    byte_of k (high * 2 ^ (8 * suc k) + low)
+    ∙ ap (λ n. n / 2 ^ (8 * k) % 256) split
+    ∙ ap (λ n. n % 256) (mul-add-div_right {m = 2 ^ (8 * k)} (pow_pos (8 * k)) (high * 256) low)
+    ∙ omega arith
+    ∙ sym (byte_of k low)
+
+lower_bytes : (k high low : ℕ) → bytes_high_first k (high * 2 ^ (8 * k) + low) ≡ bytes_high_first k low
+lower_bytes zero high low = refl
+lower_bytes (suc k) high low =
+    let split : high * 2 ^ (8 * suc k) + low ≡ high * 256 * 2 ^ (8 * k) + low = omega (arith, times_next high k) in
+    ap₂ {C = List ℕ} (λ x xs. x ∷ xs) (lower_byte k high low) (ap (bytes_high_first k) split ∙ lower_bytes k (high * 256) low)
+
+-- the bytes of a packed list, from the highest down, are its octets
+pub packed_bytes : (n : ℕ) (xs : List ℕ) → Octets xs → length xs ≤ n → take (length xs) (bytes_high_first n (packed n xs)) ≡ xs
+unfolding packed
+packed_bytes n [] o h = refl
+packed_bytes zero (x ∷ xs) o h = absurd (omega arith)
+packed_bytes (suc n) (x ∷ xs) o h =
+    let first : byte_at n (x * 2 ^ (8 * n) + packed n xs) ≡ x =
+    byte_of n (x * 2 ^ (8 * n) + packed n xs)
+    ∙ ap (λ y. y % 256) (shr_high x (8 * n) (packed n xs) (packed_below n xs (tail x xs o)))
+    ∙ omega (arith, o 0) in
+    ap₂ {C = List ℕ} (λ y ys. y ∷ ys) first
+    (ap (take (length xs)) (lower_bytes n x (packed n xs)) ∙ packed_bytes n xs (tail x xs o) (omega arith))

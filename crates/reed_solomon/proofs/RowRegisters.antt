@@ -1,24 +1,24 @@
 -- The register as one number, and the rows that feed it. Assumes nothing.
-use Rattle.std.proofs.Common.{◌≡◌, ℕ, ◌+◌, ◌-◌, ◌*◌, ◌/◌, ◌%◌, ◌^◌, ◌<◌, ◌≤◌, ◌⊎◌, List, [], ◌∷◌, ◌++◌, length, get_or, take, drop, set, sym, refl, ap, ◌∙◌, ap₂, inl, inr, arith}
+use Rattle.std.proofs.Common.{◌≡◌, ℕ, suc, ◌+◌, ◌-◌, ◌*◌, ◌/◌, ◌^◌, ◌<◌, ◌≤◌, ◌⊎◌, List, [], ◌∷◌, ◌++◌, length, get_or, take, drop, set, sym, refl, ap, ◌∙◌, ap₂, inl, inr, arith}
 use lib.Bits.{bit_xor, xor_comm, xor_lt}
-use Rattle.std.proofs.lemmas.List.{drop_all, drop-drop, drop_more, get_or-drop, get_or-take, get_or-set_same, get_or-set_other, length-drop, length-set, take_all}
+use Rattle.std.proofs.lemmas.List.{drop_all, drop_more, get_or-drop, get_or-take, get_or-set_same, get_or-set_other}
 use Rattle.std.proofs.lemmas.Bool.{cases_lt}
 use Rattle.coder.specs.Codes.{Octets}
 use Rattle.field.specs.Binary.{octets}
 use Rattle.field.specs.Octets.{octet_laws}
-use Rattle.rs_algebra.specs.Polynomials.{Elements, zeros, scaled, generator}
+use Rattle.rs_algebra.specs.Polynomials.{zeros, scaled, generator}
 use Rattle.rs_algebra.specs.Words.{register_step, register, check_of}
-use Rattle.rs_algebra.proofs.Lists.{same_reads, zeros_long, zeros_elements, scaled_long, scaled_elements, append_elements, drop_elements}
+use Rattle.rs_algebra.proofs.Lists.{zeros_long, zeros_elements, scaled_long, scaled_elements, append_elements, drop_elements}
 use Rattle.rs_algebra.proofs.LowFirst.{scaled_reads}
 use Rattle.rs_algebra.proofs.Division.{lower_long}
-use Rattle.rs_algebra.proofs.Registers.{step_long, step_elements, register_none, register_next, check_register}
-use Rattle.reed_solomon.specs.Rows.{packed, RowsOf}
+use Rattle.rs_algebra.proofs.Registers.{step_long, step_elements, check_register}
+use Rattle.std.specs.List.{fold}
+use Rattle.reed_solomon.specs.Rows.{packed, RowsOf, fed_back}
 use Rattle.reed_solomon.proofs.Packing.{packed-plus, packed_top, packed_zero, packed-zeros, packed_up, packed_down}
 
 -- one octet of a message
-pub fed : (R : ℕ) (rows : List ℕ) → RowsOf R rows → (reg : List ℕ) (c : ℕ) → Octets reg → length reg ≤ 16 → c < 256
-    → bit_xor (packed 16 reg * 2 ^ 8 % 2 ^ 128) (get_or rows (bit_xor (packed 16 reg / 2 ^ 120) c) 0)
-    ≡ packed 16 (register_step octets (generator octets R) reg c)
+fed : (R : ℕ) (rows : List ℕ) → RowsOf R rows → (reg : List ℕ) (c : ℕ) → Octets reg → length reg ≤ 16 → c < 256
+    → fed_back rows (packed 16 reg) c ≡ packed 16 (register_step octets (generator octets R) reg c)
 unfolding register_step
 fed R rows right reg c o long octet =
     let back : ℕ = bit_xor (get_or reg 0 0) c in
@@ -35,37 +35,22 @@ fed R rows right reg c o long octet =
     moved [] = refl
     moved (r ∷ reg) = sym (packed_zero 16 reg)
 
--- the register after i octets of a message
-abbrev pub after : (R : ℕ) (m : List ℕ) (i : ℕ) → List ℕ
-after R m i = register octets (generator octets R) (zeros R) (take i m)
-
-register_long : (g reg m : List ℕ) → length (drop 1 g) ≡ length reg → length (register octets g reg m) ≡ length reg
+-- all octets of a message, from a register of R octets on
+folded : (R : ℕ) (rows : List ℕ) → RowsOf R rows → R ≤ 16 → (reg m : List ℕ) → Octets reg → length reg ≡ R → Octets m
+    → fold (fed_back rows) (packed 16 reg) m ≡ packed 16 (register octets (generator octets R) reg m)
 unfolding register
-register_long g reg [] h = refl
-register_long g reg (c ∷ m) h =
-    let one : length (register_step octets g reg c) ≡ length reg = step_long octets octet_laws g reg c h in
-    register_long g (register_step octets g reg c) m (h ∙ sym one) ∙ one
+folded R rows right few reg [] o long om = refl
+folded R rows right few reg (c ∷ m) o long om =
+    let g : List ℕ = generator octets R in
+    ap (λ n. fold (fed_back rows) n m) (fed R rows right reg c o (omega (arith, long)) (om 0))
+    ∙ folded R rows right few (register_step octets g reg c) m (step_elements octets octet_laws g reg c o)
+    (step_long octets octet_laws g reg c (lower_long octets octet_laws R ∙ sym long) ∙ long) (λ k. om (suc k))
 
-register_elements : (g reg m : List ℕ) → Elements octets reg → Elements octets (register octets g reg m)
-unfolding register
-register_elements g reg [] e = e
-register_elements g reg (c ∷ m) e = register_elements g (register_step octets g reg c) m (step_elements octets octet_laws g reg c e)
-
-module _ (R : ℕ) (m : List ℕ) where
-  pub after_long : (i : ℕ) → length (after R m i) ≡ R
-  after_long i = register_long (generator octets R) (zeros R) (take i m) (lower_long octets octet_laws R ∙ sym (zeros_long R)) ∙ zeros_long R
-
-  pub after-octets : (i : ℕ) → Octets (after R m i)
-  after-octets i = register_elements (generator octets R) (zeros R) (take i m) (zeros_elements octets octet_laws R)
-
-  pub after_none : 0 ≡ packed 16 (after R m 0)
-  after_none = sym (ap (packed 16) (register_none octets octet_laws (generator octets R) (zeros R) m) ∙ packed-zeros 16 R)
-
-  pub after_more : (i : ℕ) → i < length m → register_step octets (generator octets R) (after R m i) (get_or m i 0) ≡ after R m (i + 1)
-  after_more i h = sym (register_next octets octet_laws (generator octets R) (zeros R) m i h)
-
-  pub after_all : (i : ℕ) → length m ≤ i → after R m i ≡ check_of octets R m
-  after_all i h = ap (register octets (generator octets R) (zeros R)) (take_all i m h) ∙ sym (check_register octets octet_laws R m)
+pub packed_check : (R : ℕ) (rows : List ℕ) → RowsOf R rows → R ≤ 16 → (m : List ℕ) → Octets m → fold (fed_back rows) 0 m ≡ packed 16 (check_of octets R m)
+packed_check R rows right few m o =
+    ap (λ n. fold (fed_back rows) n m) (sym (packed-zeros 16 R))
+    ∙ folded R rows right few (zeros R) m (zeros_elements octets octet_laws R) (zeros_long R) o
+    ∙ ap (packed 16) (sym (check_register octets octet_laws R m))
 
 -- a row's octets: the products of a factor and the coefficients 1 to R of a polynomial
 abbrev pub products : (factor R : ℕ) (p : List ℕ) → List ℕ
@@ -121,44 +106,3 @@ filled_more R p rows n row inside filled is f h = go (cases_lt f n)
     go (inr at) =
         let e : f ≡ n = omega arith in
         ap (λ i. get_or (set rows n row) i 0) e ∙ get_or-set_same rows n row 0 inside ∙ is ∙ ap (λ i. packed 16 (products i R p)) (sym e)
-
--- the first i octets of a number are written, and the others are left
-abbrev pub Unpacked : (whole i left : ℕ) (held : List ℕ) → Type 0
-Unpacked whole i left held =
-    (xs : List ℕ) → Octets xs → length xs ≤ 16 → length xs ≡ length held → whole ≡ packed 16 xs
-    → (left ≡ packed 16 (drop i xs)) × ((k : ℕ) → k < i → get_or held k 0 ≡ get_or xs k 0)
-
-pub none_unpacked : (whole : ℕ) (held : List ℕ) → Unpacked whole 0 whole held
-none_unpacked whole held xs o few long is = (is, λ k h. absurd (omega arith))
-
-pub one_unpacked : (whole i left v : ℕ) (held : List ℕ) → i < length held → v ≡ left / 2 ^ 120 → Unpacked whole i left held
-    → Unpacked whole (i + 1) (left * 2 ^ 8 % 2 ^ 128) (set held i v)
-one_unpacked whole i left v held inside top so xs o few long is = (moved, λ k h. reads k h (cases_lt k i))
-  where
-    before : (left ≡ packed 16 (drop i xs)) × ((k : ℕ) → k < i → get_or held k 0 ≡ get_or xs k 0)
-    before = so xs o few (long ∙ length-set held i v) is
-
-    octets-left : Octets (drop i xs)
-    octets-left = drop_elements octets octet_laws i xs o
-
-    moved : left * 2 ^ 8 % 2 ^ 128 ≡ packed 16 (drop (i + 1) xs)
-    moved =
-        ap (λ n. n * 2 ^ 8 % 2 ^ 128) before.0
-        ∙ packed_up 15 (drop i xs) octets-left (omega (arith, length-drop i xs))
-        ∙ ap (packed 16) (drop-drop 1 i xs)
-
-    first : v ≡ get_or xs i 0
-    first =
-        let e : i + 0 ≡ i = omega arith in
-        top ∙ ap (λ n. n / 2 ^ 120) before.0 ∙ packed_top 15 (drop i xs) octets-left ∙ get_or-drop i xs 0 0 ∙ ap (λ j. get_or xs j 0) e
-
-    reads : (k : ℕ) → k < i + 1 → (k < i) ⊎ (i ≤ k) → get_or (set held i v) k 0 ≡ get_or xs k 0
-    reads k h (inl lower) = get_or-set_other held i k v 0 (omega arith) ∙ before.1 k lower
-    reads k h (inr at) =
-        let e : k ≡ i = omega arith in
-        ap (λ j. get_or (set held i v) j 0) e ∙ get_or-set_same held i v 0 inside ∙ first ∙ ap (λ j. get_or xs j 0) (sym e)
-
-pub all_unpacked : (whole i left : ℕ) (held : List ℕ) → length held ≤ i → Unpacked whole i left held
-    → (xs : List ℕ) → Octets xs → length xs ≤ 16 → length xs ≡ length held → whole ≡ packed 16 xs → held ≡ xs
-all_unpacked whole i left held all so xs o few long is =
-    same_reads held xs (sym long) (λ k h. (so xs o few long is).1 k (omega arith))

@@ -1,5 +1,5 @@
 // Which Reed-Solomon coders there are.
-ghost use Rattle.std.specs.Prelude.{◌≡◌, ◌+◌, ◌/◌, ◌%◌, ◌≤◌, Ok};
+ghost use Rattle.std.specs.Prelude.{◌≡◌};
 ghost use Rattle.reed_solomon.specs.Constructed.{told, sizes_over, Made};
 
 use crate::reed_solomon::ReedSolomon;
@@ -17,19 +17,10 @@ impl<F: Field> ReedSolomon<F> {
         if sizes.word >= F::size() {
             return Err(Refusal::UnfitSizes);
         }
-        Ok(Self::of_sizes(sizes, frame, check))
-    }
-
-    fn of_sizes(sizes: Sizes, frame: usize, check: usize) -> Self
-        requires frame_value { (sizes.frame ≡ frame) × (sizes.word ≡ frame + check) × (sizes.repairs ≡ check / 2) }
-        requires check_value { (check % 2 ≡ 0) × (check ≤ 16) }
-        ensures sizes { result.sizes ≡ sizes }
-        ensures words { Made F.Field.field frame check (Ok result) }
-    {
-        ReedSolomon {
+        Ok(ReedSolomon {
             field: PhantomData,
             sizes,
             check,
-        }
+        })
     }
 }

@@ -2,21 +2,20 @@
 #![tactic(auto)]
 
 pub mod accepted;
+mod checks;
 mod coding;
 mod decoding;
 mod difference;
 mod generator;
-mod lengths;
 mod locator;
 mod mending;
+pub mod over_octets;
 mod places;
 pub mod reed_solomon;
 mod register;
 mod repair;
 pub mod rows;
-pub mod shifting;
 mod syndromes;
-pub mod table;
 mod values;
 
 pub use reed_solomon::ReedSolomon;

@@ -1,7 +1,5 @@
 // A Reed-Solomon coder over octets with one table row for each octet fed back.
 pub mod accepted;
-mod coding;
-mod decoding;
 mod filling;
 mod register;
 pub mod row_coder;

@@ -1,53 +1,36 @@
 // Words by hand and from another coder, the edges of the sizes, and the refusals by length.
 use crate::reed_solomon::ReedSolomon;
-use coder::{Coder, Misfit, Undecoded};
-use field::{Field, Shifting, Table};
+use coder::{Coder, Misfit, Refusal, Undecoded};
+use field::{Field, OctetField, Shifting, Table};
 use std::process::Abort;
 use std::test::Fail;
 
-// 0 where nothing was refused
-fn number(answer: Result<(), Misfit>) -> u8 {
-    match answer {
-        Ok(()) => 0,
-        Err(misfit) => misfit.number(),
-    }
-}
-
-// 0 and how many octets were repaired, or the refusal's number
-fn repaired(answer: Result<usize, Undecoded>) -> (u8, usize) {
-    match answer {
-        Ok(octets) => (0, octets),
-        Err(undecoded) => (undecoded.number(), 0),
-    }
-}
-
-// The numbers of a coder: 0, K, N and t, or the refusal's number.
-fn numbers<F: Field>(frame: usize, check: usize) -> (u8, usize, usize, usize) {
-    match ReedSolomon::<F>::new(frame, check) {
-        Ok(coder) => (0, coder.sizes.frame, coder.sizes.word, coder.sizes.repairs),
-        Err(refusal) => (refusal.number(), 0, 0, 0),
-    }
+// K, N and t of a coder, or the refusal's number.
+fn numbers<F: Field>(frame: usize, check: usize) -> Result<(usize, usize, usize), u8> {
+    ReedSolomon::<F>::new(frame, check)
+        .map(|coder| (coder.sizes.frame, coder.sizes.word, coder.sizes.repairs))
+        .map_err(Refusal::number)
 }
 
 #[test]
 fn sizes(rt: HostRuntime) {
-    // K and R, the answer's number, N and t
+    // K and R, and N and t or the refusal's number
     let rows = [
-        (3, 0, 0, 3, 0),
-        (3, 1, 1, 0, 0),
-        (3, 2, 0, 5, 1),
-        (3, 16, 0, 19, 8),
-        (3, 18, 1, 0, 0),
-        (2, 2, 1, 0, 0),
-        (255, 0, 0, 255, 0),
-        (239, 16, 0, 255, 8),
-        (240, 16, 1, 0, 0),
-        (256, 0, 1, 0, 0),
+        (3, 0, Ok((3, 0))),
+        (3, 1, Err(1)),
+        (3, 2, Ok((5, 1))),
+        (3, 16, Ok((19, 8))),
+        (3, 18, Err(1)),
+        (2, 2, Err(1)),
+        (255, 0, Ok((255, 0))),
+        (239, 16, Ok((255, 8))),
+        (240, 16, Err(1)),
+        (256, 0, Err(1)),
     ];
-    for (frame, check_octets, refusal, word, repairs) in rows {
-        let kept = if refusal == 0 { frame } else { 0 };
-        assert!(rt; numbers::<Table>(frame, check_octets) == (refusal, kept, word, repairs));
-        assert!(rt; numbers::<Shifting>(frame, check_octets) == (refusal, kept, word, repairs));
+    for (frame, check_octets, answer) in rows {
+        let told = answer.map(|(word, repairs)| (frame, word, repairs));
+        assert!(rt; numbers::<Table>(frame, check_octets) == told);
+        assert!(rt; numbers::<Shifting>(frame, check_octets) == told);
     }
 }
 
@@ -55,7 +38,7 @@ fn encodes<C: Coder>(rt: &impl Abort, coder: &C, message: &[u8], word: &[u8]) {
     let mut buffer = [0xee; 255];
     assert!(rt; word.len() <= 255);
     let written = &mut buffer[..word.len()];
-    assert_eq!(rt; number(coder.encode(message, written)), 0);
+    assert_eq!(rt; coder.encode(message, written), Ok(()));
     assert!(rt; *written == *word);
 }
 
@@ -64,21 +47,22 @@ fn decodes<C: Coder>(rt: &impl Abort, coder: &C, message: &[u8], word: &[u8]) {
     let mut buffer = [0xee; 255];
     assert!(rt; message.len() <= 255);
     let found = &mut buffer[..message.len()];
-    assert_eq!(rt; repaired(coder.decode(word, found)), (0, 0));
+    assert_eq!(rt; coder.decode(word, found), Ok(0));
     assert!(rt; *found == *message);
+}
+
+fn one<F: OctetField>(rt: &impl Abort, message: &[u8], word: &[u8]) -> Result<(), Fail> {
+    assert!(rt; message.len() <= word.len());
+    let coder = ReedSolomon::<F>::new(message.len(), word.len() - message.len())?;
+    encodes(rt, &coder, message, word);
+    decodes(rt, &coder, message, word);
+    Ok(())
 }
 
 // Both makes of the field write the word, and read it.
 fn both(rt: &impl Abort, message: &[u8], word: &[u8]) -> Result<(), Fail> {
-    assert!(rt; message.len() <= word.len());
-    let check_octets = word.len() - message.len();
-    let table = ReedSolomon::<Table>::new(message.len(), check_octets)?;
-    encodes(rt, &table, message, word);
-    decodes(rt, &table, message, word);
-    let shifting = ReedSolomon::<Shifting>::new(message.len(), check_octets)?;
-    encodes(rt, &shifting, message, word);
-    decodes(rt, &shifting, message, word);
-    Ok(())
+    one::<Table>(rt, message, word)?;
+    one::<Shifting>(rt, message, word)
 }
 
 #[test]
@@ -142,16 +126,12 @@ fn refuses<C: Coder>(rt: &impl Abort, coder: &C) {
     for (long, whole, refusal) in rows {
         let mut word = [0xee; 6];
         assert!(rt; long <= 6 && whole <= 6);
-        assert_eq!(rt;
-            number(coder.encode(&[1; 6][..long], &mut word[..whole])),
-            refusal
-        );
+        let encoded = coder.encode(&[1; 6][..long], &mut word[..whole]);
+        assert_eq!(rt; encoded.map_err(Misfit::number), Err(refusal));
         assert!(rt; word == [0xee; 6]);
         let mut message = [0xee; 6];
-        assert_eq!(rt;
-            repaired(coder.decode(&[1; 6][..whole], &mut message[..long])),
-            (refusal, 0)
-        );
+        let decoded = coder.decode(&[1; 6][..whole], &mut message[..long]);
+        assert_eq!(rt; decoded.map_err(Undecoded::number), Err(refusal));
         assert!(rt; message == [0xee; 6]);
     }
 }

@@ -1,42 +1,25 @@
 // The check octets of a message, by a register that is one number: its first octet is the highest.
-ghost use Rattle.std.specs.Prelude.{◌≡◌, ℕ, ◌/◌, ◌^◌, ◌≤◌, List, length, bit_xor};
-ghost use Rattle.coder.specs.Codes.{Octets};
+ghost use Rattle.std.specs.Prelude.{◌≡◌, ◌/◌, ◌^◌, bit_xor};
 ghost use Rattle.field.specs.Binary.{octets};
-ghost use Rattle.rs_algebra.specs.Polynomials.{generator};
-ghost use Rattle.rs_algebra.specs.Words.{check_of, register_step};
-ghost use Rattle.reed_solomon.specs.Rows.{packed};
+ghost use Rattle.rs_algebra.specs.Words.{check_of};
+ghost use Rattle.reed_solomon.specs.Rows.{packed, fed_back};
 
+use crate::checks::Checks;
+use crate::reed_solomon::ReedSolomon;
 use crate::rows::row_coder::RowCoder;
+use field::Table;
 
-// The highest octet.
-fn top(register: u128) -> u8
-    ensures { result ≡ register / 2 ^ 120 }
-{
-    (register >> 120) as u8
-}
-
-// What moves out of the register, with an octet of the message added.
+// What moves out of the register, its highest octet, with an octet of the message added.
 fn feedback(register: u128, octet: u8) -> u8
     ensures { result ≡ bit_xor (register / 2 ^ 120) octet }
 {
-    top(register) ^ octet
-}
-
-// Writes as many octets as there is room for, from the highest down.
-fn unpack(register: u128, out: &mut [u8])
-    ensures { (xs : List ℕ) → Octets xs → length xs ≤ 16 → length xs ≡ length out.old → register ≡ packed 16 xs → out.new ≡ xs }
-{
-    let mut left = register;
-    for octet in out.iter_mut() {
-        *octet = top(left);
-        left <<= 8;
-    }
+    (register >> 120) as u8 ^ octet
 }
 
 impl RowCoder {
     // One octet of the message: the register moves up one place, and the row of what is fed back is added.
     fn feed(&self, register: u128, octet: u8) -> u128
-        ensures { (reg : List ℕ) → Octets reg → length reg ≤ 16 → register ≡ packed 16 reg → result ≡ packed 16 (register_step octets (generator octets self.now.plain.check) reg octet) }
+        ensures { result ≡ fed_back self.now.rows register octet }
     {
         let back = feedback(register, octet);
         register << 8 ^ self.rows[back as usize]
@@ -44,22 +27,25 @@ impl RowCoder {
 
     // The register after a message.
     fn register_of(&self, message: &[u8]) -> u128
-        ensures check { result ≡ packed 16 (check_of octets self.now.plain.check message.now) }
-        ensures octets { Octets message.now }
+        ensures { result ≡ packed 16 (check_of octets self.now.plain.check message.now) }
     {
-        let mut register = 0;
-        for octet in message.iter() {
-            register = self.feed(register, *octet);
-        }
-        register
+        message
+            .iter()
+            .fold(0, |register, octet| self.feed(register, *octet))
+    }
+}
+
+impl Checks for RowCoder {
+    type Over = Table;
+
+    ghost numbers = { λ s. s.plain };
+
+    fn numbers(&self) -> &ReedSolomon<Table> {
+        &self.plain
     }
 
-    // Writes the check octets of a message.
-    pub(crate) fn check_octets(&self, message: &[u8], out: &mut [u8])
-        requires { length out.old ≡ self.now.plain.check }
-        ensures check { out.new ≡ check_of octets (length out.old) message.now }
-        ensures octets { Octets message.now }
-    {
-        unpack(self.register_of(message), out);
+    fn check_octets(&self, message: &[u8], out: &mut [u8]) {
+        let register = self.register_of(message);
+        out.copy_from_slice(&register.to_be_bytes()[..out.len()]);
     }
 }

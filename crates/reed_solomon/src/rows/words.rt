@@ -5,9 +5,12 @@ ghost use Rattle.field.specs.Binary.{octets};
 ghost use Rattle.field.specs.Octets.{octet_laws};
 ghost use Rattle.reed_solomon.specs.Codes;
 
+use crate::coding::encode;
+use crate::decoding::decode;
 use crate::rows::row_coder::RowCoder;
 use coder::{Coder, Misfit, Sizes, Undecoded};
 
+// Stays beside the impl for ReedSolomon: `impl<C: Checks> Coder for C` would be one, but no impl of another crate's trait may stand for every type.
 impl Coder for RowCoder {
     ghost code = { λ s. code_of s };
 
@@ -18,15 +21,10 @@ impl Coder for RowCoder {
     }
 
     fn encode(&self, message: &[u8], word: &mut [u8]) -> Result<(), Misfit> {
-        self.plain.fits(message, word)?;
-        self.write_word(message, word);
-        Ok(())
+        encode(self, message, word)
     }
 
     fn decode(&self, received: &[u8], message: &mut [u8]) -> Result<usize, Undecoded> {
-        if let Err(misfit) = self.plain.fits(message, received) {
-            return Err(Undecoded::Unfit(misfit));
-        }
-        self.decode_octets(received, message)
+        decode(self, received, message)
     }
 }

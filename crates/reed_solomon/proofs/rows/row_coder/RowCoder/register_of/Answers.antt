@@ -1,21 +1,13 @@
-use Rattle.std.proofs.Common.{ℕ, ap, ◌∙◌, arith}
-use Rattle.reed_solomon.specs.Rows.{packed}
-use Rattle.reed_solomon.proofs.RowRegisters.{after, after_long, after-octets, after_none, after_more, after_all}
+use Rattle.std.proofs.Common.{◌∙◌, rules, tests}
+use Rattle.std.proofs.lemmas.Iterator.{YieldsList-from_slice}
+use Rattle.std.proofs.lemmas.Iterator.Consumers.{fold_from_yields_List}
+use Rattle.reed_solomon.specs.Rows.{fed_back}
+use Rattle.reed_solomon.proofs.RowRegisters.{packed_check}
 use Rattle.reed_solomon.proofs.rows.row_coder.RowCoder.register_of.Goals as goal
 
-pub loop-octet-init : goal.loop-octet-init
-loop-octet-init c = after_none c.args.self.now.plain.check c.args.message.now
-
-pub loop-octet-preserved : goal.loop-octet-preserved
-loop-octet-preserved c =
-    let R : ℕ = c.args.self.now.plain.check in
-    let m = c.args.message.now in
-    let i : ℕ = c.loop-octet.octet-index in
-    c.feed-register.ensures (after R m i) (after-octets R m i) (omega (arith, after_long R m i)) c.loop-octet.invariant
-    ∙ ap (packed 16) (after_more R m i c.loop-octet-test.true)
-
 pub returns : goal.returns
-returns c = record {
-  check = c.loop-octet.invariant ∙ ap (packed 16) (after_all c.args.self.now.plain.check c.args.message.now c.loop-octet.octet-index c.loop-octet-test.false);
-  octets = λ k. (c.type_inv.message k).fits;
-}
+returns c =
+    let s = c.args.self.now in
+    let m = c.args.message.now in
+    fold_from_yields_List _ (fed_back s.rows) 0 c.fold.result c.fold.ensures.ran (YieldsList-from_slice m cc) (λ a x b q k. search (rules, tests))
+    ∙ packed_check s.plain.check s.rows s.products s.plain.even.1 m (λ k. (c.type_inv.message k).fits)
