@@ -37,9 +37,12 @@ pub record Sound (c : Code) : Type 0 where
   pub apart : (a b : List ℕ) → Message c a → Message c b → a ≢ b → 2 * c.sizes.repairs + 1 ≤ distance (c.word_of a) (c.word_of b)
 
 -- the refusal of a message or word buffer by its length: 5 before 6
+abbrev pub of_sizes : (p : Parameters) (message word : List ℕ) → Result Unit Misfit
+of_sizes p message word =
+    cond (length message == p.frame) (cond (length word == p.word) (Ok tt) (Err Line)) (Err Frame)
+
 abbrev pub fitting : (c : Code) (message word : List ℕ) → Result Unit Misfit
-fitting c message word =
-    cond (length message == c.sizes.frame) (cond (length word == c.sizes.word) (Ok tt) (Err Line)) (Err Frame)
+fitting c message word = of_sizes c.sizes message word
 
 -- a word buffer after encoding: the word, or what it held where the lengths are refused
 abbrev pub encoded : (c : Code) (message word : List ℕ) → List ℕ

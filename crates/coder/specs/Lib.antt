@@ -3,4 +3,5 @@ pub mod Misfits
 pub mod Losses
 pub mod Arrivals
 pub mod Sizes
+pub mod Kinds
 pub mod Codes

@@ -4,6 +4,8 @@
 pub mod accepted;
 pub mod arrival;
 pub mod coder;
+pub mod fitting;
+pub mod kind;
 pub mod misfit;
 pub mod refusal;
 pub mod sizes;
@@ -11,6 +13,7 @@ pub mod undecoded;
 
 pub use arrival::Arrival;
 pub use coder::Coder;
+pub use kind::Kind;
 pub use misfit::Misfit;
 pub use refusal::Refusal;
 pub use sizes::Sizes;

@@ -5,21 +5,17 @@ ghost use Rattle.coder.specs.Misfits.{misfit_number};
 #[derive(Clone, Copy, PartialEq, Eq, Debug)]
 pub enum Misfit {
     // the frame or message buffer is not K octets
-    Frame,
+    Frame = 5,
     // the line, block or word buffer is not as long as it must be
-    Line,
+    Line = 6,
     // the delay memory is not of its stated size
-    Memory,
+    Memory = 7,
 }
 
 impl Misfit {
     pub fn number(self) -> u8
         ensures { result ≡ misfit_number self }
     {
-        match self {
-            Misfit::Frame => 5,
-            Misfit::Line => 6,
-            Misfit::Memory => 7,
-        }
+        self as u8
     }
 }

@@ -1,6 +1,7 @@
 // Why a received word gave no message: a refusal of the lengths, or a loss.
 ghost use Rattle.std.specs.Prelude.{◌≡◌};
 ghost use Rattle.coder.specs.Losses.{undecoded_number};
+ghost use Rattle.coder.specs.declared.undecoded.Undecoded.TheVariants.{Unfit};
 
 use crate::misfit::Misfit;
 
@@ -12,6 +13,7 @@ pub enum Undecoded {
 }
 
 impl Undecoded {
+    // Stays a match: an enum with a value in one of its cases has no numbers of its own.
     pub fn number(self) -> u8
         ensures { result ≡ undecoded_number self }
     {
@@ -19,5 +21,13 @@ impl Undecoded {
             Undecoded::Unfit(misfit) => misfit.number(),
             Undecoded::Lost => 8,
         }
+    }
+}
+
+impl From<Misfit> for Undecoded {
+    ghost from_gives = { λ misfit undecoded. undecoded ≡ Unfit misfit };
+
+    fn from(misfit: Misfit) -> Undecoded {
+        Self::Unfit(misfit)
     }
 }
