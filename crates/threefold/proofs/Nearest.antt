@@ -1,6 +1,6 @@
 -- The voted message is the nearest of all. Assumes nothing.
-use Rattle.std.proofs.Common.{◌≡◌, ℕ, suc, ◌+◌, ◌*◌, ◌^◌, ◌<◌, ◌≤◌, ◌⊎◌, List, [], ◌∷◌, ◌++◌, map, sum, length, get_or, sym, refl, ap, ◌∙◌, inl, inr, arith}
-use Rattle.std.specs.List.{range_with_len, zip}
+use Rattle.std.proofs.Common.{◌≡◌, ℕ, suc, ◌+◌, ◌*◌, ◌<◌, ◌≤◌, ◌⊎◌, List, [], ◌∷◌, ◌++◌, map, length, get_or, sym, ap, ◌∙◌, inl, inr, arith}
+use Rattle.std.specs.List.{zip}
 use Rattle.std.proofs.lemmas.List.FromFn.{length-map-range_with_len, get_or-map-range_with_len}
 use Rattle.std.proofs.lemmas.List.{length-append, get_or_append_left, get_or-append_right, get_or_past}
 use Rattle.std.proofs.lemmas.List.Sums.{sum_by-cons}
@@ -8,9 +8,9 @@ use Rattle.std.proofs.lemmas.Bool.{cases_lt, cond_both}
 use Rattle.std.proofs.lemmas.Bool.Decides.{nat_tests}
 use Rattle.coder.specs.Codes.{Octets, distance}
 use Rattle.coder.proofs.Distances.{distance-append}
-use Rattle.threefold.specs.declared.threefold.Thirds.{Copies}
+use Rattle.threefold.specs.declared.threefold.Thirds.{Thirds}
 use Rattle.threefold.specs.Threefold.{thrice}
-use Rattle.threefold.specs.Votes.{Judged, majority_of, odd_of, others, voted, voted_at, whole}
+use Rattle.threefold.specs.Votes.{Judged, majority_of, odd_of, odds_of, others, voted, voted_at, whole}
 
 -- no octet is nearer to three others than their majority
 majority_nearest : (a b c x : ℕ) → odd_of a b c ≤ others a b c x
@@ -18,10 +18,6 @@ majority_nearest a b c x = grind (arith, nat_tests)
 
 odd_le : (a b c : ℕ) → odd_of a b c ≤ 3
 odd_le a b c = grind (arith, nat_tests)
-
--- how many octets of three copies are not the majority
-abbrev pub odds : (a b c : List ℕ) → ℕ
-odds a b c = sum (map (λ p. odd_of p.0.0 p.0.1 p.1) (zip (zip a b) c))
 
 -- how many octets of three copies differ from a message's
 abbrev apart : (m a b c : List ℕ) → ℕ
@@ -31,18 +27,18 @@ apart m a b c = distance m a + distance m b + distance m c
 abbrev pub Voted : (m a b c : List ℕ) → Type 0
 Voted m a b c = (k : ℕ) → k < length m → get_or m k 0 ≡ majority_of (get_or a k 0) (get_or b k 0) (get_or c k 0)
 
-odds_more : (x y z : ℕ) (a b c : List ℕ) → odds (x ∷ a) (y ∷ b) (z ∷ c) ≡ odd_of x y z + odds a b c
+odds_more : (x y z : ℕ) (a b c : List ℕ) → odds_of (x ∷ a) (y ∷ b) (z ∷ c) ≡ odd_of x y z + odds_of a b c
 odds_more x y z a b c = sum_by-cons (λ n. n) (odd_of x y z) (map (λ p. odd_of p.0.0 p.0.1 p.1) (zip (zip a b) c))
 
-odds_few : (a b c : List ℕ) → odds a b c ≤ 3 * length a
+pub odds_few : (a b c : List ℕ) → odds_of a b c ≤ 3 * length a
 odds_few [] b c = omega arith
 odds_few (x ∷ a) [] c = omega arith
 odds_few (x ∷ a) (y ∷ b) [] = omega arith
 odds_few (x ∷ a) (y ∷ b) (z ∷ c) = omega (arith, odds_more x y z a b c, odd_le x y z, odds_few a b c)
 
-odds_least : (m a b c : List ℕ) → length a ≡ length m → length b ≡ length m → length c ≡ length m → odds a b c ≤ apart m a b c
+odds_least : (m a b c : List ℕ) → length a ≡ length m → length b ≡ length m → length c ≡ length m → odds_of a b c ≤ apart m a b c
 unfolding distance
-odds_least [] a b c e f g = let a-none : odds a b c ≤ 0 = omega (arith, odds_few a b c) in omega (arith, a-none)
+odds_least [] a b c e f g = let a-none : odds_of a b c ≤ 0 = omega (arith, odds_few a b c) in omega (arith, a-none)
 odds_least (w ∷ m) (x ∷ a) (y ∷ b) (z ∷ c) e f g =
     let here = majority_nearest x y z w in
     omega (arith, here, odds_more x y z a b c, odds_least m a b c (omega arith) (omega arith) (omega arith))
@@ -51,7 +47,7 @@ odds_least (w ∷ m) (x ∷ a) [] c e f g = absurd (omega arith)
 odds_least (w ∷ m) (x ∷ a) (y ∷ b) [] e f g = absurd (omega arith)
 
 -- the voted octets are as near as that
-odds_are : (m a b c : List ℕ) → length a ≡ length m → length b ≡ length m → length c ≡ length m → Voted m a b c → apart m a b c ≡ odds a b c
+odds_are : (m a b c : List ℕ) → length a ≡ length m → length b ≡ length m → length c ≡ length m → Voted m a b c → apart m a b c ≡ odds_of a b c
 unfolding distance
 odds_are [] a b c e f g v = omega (arith, odds_few a b c)
 odds_are (w ∷ m) (x ∷ a) (y ∷ b) (z ∷ c) e f g v =
@@ -63,10 +59,15 @@ odds_are (w ∷ m) [] b c e f g v = absurd (omega arith)
 odds_are (w ∷ m) (x ∷ a) [] c e f g v = absurd (omega arith)
 odds_are (w ∷ m) (x ∷ a) (y ∷ b) [] e f g v = absurd (omega arith)
 
-module _ (K : ℕ) (a b c : List ℕ) (al : length a ≡ K) (bl : length b ≡ K) (cl : length c ≡ K) where
-  received : List ℕ
-  received = a ++ b ++ c
+voted_long : (K : ℕ) (received : List ℕ) → length (voted K received) ≡ K
+unfolding voted
+voted_long K received = length-map-range_with_len (voted_at K received) 0 K
 
+voted_get : (K : ℕ) (received : List ℕ) (i : ℕ) → i < K → get_or (voted K received) i 0 ≡ voted_at K received i
+unfolding voted
+voted_get K received i h = get_or-map-range_with_len (voted_at K received) 0 K i i 0 h (omega arith)
+
+module _ (K : ℕ) (a b c : List ℕ) (al : length a ≡ K) (bl : length b ≡ K) (cl : length c ≡ K) where
   -- the octet of a received word by its three copies
   pub voted_at_lem : (k : ℕ) → k < K → voted_at K (a ++ b ++ c) k ≡ majority_of (get_or a k 0) (get_or b k 0) (get_or c k 0)
   voted_at_lem k h =
@@ -77,3 +78,47 @@ module _ (K : ℕ) (a b c : List ℕ) (al : length a ≡ K) (bl : length b ≡ K
       let in_c : get_or (a ++ b ++ c) (2 * K + k) 0 ≡ get_or c k 0
       = get_or-append_right (a ++ b) c (2 * K) (2 * K + k) 0 two (omega arith) ∙ ap (λ n. get_or c n 0) (omega arith) in
       rw (in_a, in_b, in_c)
+
+  voted_parts : Voted (voted K (a ++ b ++ c)) a b c
+  voted_parts k h =
+      let l : k < K = omega (arith, voted_long K (a ++ b ++ c)) in
+      voted_get K (a ++ b ++ c) k l ∙ voted_at_lem k l
+
+  apart_is : (m : List ℕ) → length m ≡ K → distance (thrice m) (a ++ b ++ c) ≡ apart m a b c
+  apart_is m ml =
+      let pair : length (m ++ m) ≡ length (a ++ b) = length-append m m ∙ omega arith ∙ sym (length-append a b) in
+      omega (arith, distance-append (m ++ m) (a ++ b) m c pair, distance-append m a m b (ml ∙ sym al))
+
+  pub odds_voted : distance (thrice (voted K (a ++ b ++ c))) (a ++ b ++ c) ≡ odds_of a b c
+  odds_voted =
+      let m = voted K (a ++ b ++ c) in
+      let ml : length m ≡ K = voted_long K (a ++ b ++ c) in
+      apart_is m ml ∙ odds_are m a b c (omega arith) (omega arith) (omega arith) voted_parts
+
+  pub odds_nearest : (m : List ℕ) → length m ≡ K → odds_of a b c ≤ distance (thrice m) (a ++ b ++ c)
+  odds_nearest m ml = omega (arith, apart_is m ml, odds_least m a b c (omega arith) (omega arith) (omega arith))
+
+-- a majority of octets is an octet
+voted-octets : (K : ℕ) (received : List ℕ) → Octets received → Octets (voted K received)
+voted-octets K received octets k = go (cases_lt k K)
+  where
+    go : (k < K) ⊎ (K ≤ k) → get_or (voted K received) k 0 < 256
+    go (inl h) =
+        let at = voted_get K received k h in
+        let some : voted_at K received k < 256 = cond_both _ _ _ (λ x. x < 256) (λ t. octets (K + k)) (λ f. octets k) in
+        omega arith
+    go (inr h) = omega (arith, get_or_past (voted K received) k 0 (omega (arith, voted_long K received)))
+
+-- What counting the odd octets tells.
+pub judged : (t : Thirds) → Judged t.coder (whole t) (odds_of t.first.now t.second.now t.third.now)
+judged t =
+    let K : ℕ = t.coder.sizes.frame in
+    let all = odds_voted K t.first.now t.second.now t.third.now t.one t.two t.three in
+    record {
+      near = λ within. record {
+        message = record { long = voted_long K (whole t); octets = voted-octets K (whole t) t.octets };
+        differing = all;
+        within = within;
+      };
+      far = λ far m is. omega (arith, far, odds_nearest K t.first.now t.second.now t.third.now t.one t.two t.three m is.long);
+    }

@@ -1,7 +1,7 @@
 -- The message that most copies of a received word speak for: words of the private functions, no public contract cites them.
 -- Assumes nothing.
-use Rattle.std.specs.Prelude.{ℕ, ◌+◌, ◌*◌, ◌<◌, ◌≤◌, cond, List, ◌++◌, map, ◌==◌, slice_index}
-use Rattle.std.specs.List.{range_with_len}
+use Rattle.std.specs.Prelude.{ℕ, ◌+◌, ◌*◌, ◌<◌, ◌≤◌, cond, List, ◌++◌, map, sum, ◌==◌, slice_index}
+use Rattle.std.specs.List.{range_with_len, zip}
 use Rattle.coder.specs.Codes.{Near, NoneNear}
 use Rattle.threefold.specs.declared.threefold.Threefold.{Threefold}
 use Rattle.threefold.specs.declared.threefold.Thirds.{Thirds}
@@ -18,6 +18,10 @@ others a b c x = cond (x == a) 0 1 + cond (x == b) 0 1 + cond (x == c) 0 1
 -- and how many are not their majority
 abbrev pub odd_of : (a b c : ℕ) → ℕ
 odd_of a b c = others a b c (majority_of a b c)
+
+-- and in three copies of a message, octet by octet
+abbrev pub odds_of : (first second third : List ℕ) → ℕ
+odds_of first second third = sum (map (λ p. odd_of p.0.0 p.0.1 p.1) (zip (zip first second) third))
 
 -- octet i of the message by the three copies of it
 abbrev pub voted_at : (K : ℕ) (received : List ℕ) → ℕ → ℕ

@@ -1,5 +1,6 @@
 // A threefold coder. A value of this type exists only with sizes that belong to it.
-ghost use Rattle.std.specs.Prelude.{◌≡◌, ◌*◌, length};
+ghost use Rattle.std.specs.Prelude.{◌≡◌, ◌*◌, ◌++◌, length};
+ghost use Rattle.coder.specs.Codes.{Octets};
 
 use coder::Sizes;
 
@@ -24,4 +25,5 @@ struct Thirds<'a> {
     ghost one: { length first.now ≡ coder.sizes.frame },
     ghost two: { length second.now ≡ coder.sizes.frame },
     ghost three: { length third.now ≡ coder.sizes.frame },
+    ghost octets: { Octets (first.now ++ second.now ++ third.now) },
 }

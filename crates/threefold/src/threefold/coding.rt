@@ -16,23 +16,13 @@ impl Coder for Threefold {
     }
 
     fn encode(&self, message: &[u8], word: &mut [u8]) -> Result<(), Misfit> {
-        if message.len() != self.sizes.frame {
-            return Err(Misfit::Frame);
-        }
-        if word.len() != self.sizes.word {
-            return Err(Misfit::Line);
-        }
+        self.sizes.fits(message, word)?;
         write_thrice(message, word);
         Ok(())
     }
 
     fn decode(&self, received: &[u8], message: &mut [u8]) -> Result<usize, Undecoded> {
-        if message.len() != self.sizes.frame {
-            return Err(Undecoded::Unfit(Misfit::Frame));
-        }
-        if received.len() != self.sizes.word {
-            return Err(Undecoded::Unfit(Misfit::Line));
-        }
+        self.sizes.fits(message, received)?;
         let copies = Thirds::of(*self, received);
         let faults = copies.faults();
         if faults > self.sizes.repairs {

@@ -1,7 +1,7 @@
 // The three copies of a message in a word.
-ghost use Rattle.std.specs.Prelude.{◌≡◌, ◌*◌, length};
+ghost use Rattle.std.specs.Prelude.{◌≡◌, ◌*◌, ◌^◌, ◌<◌, length};
 ghost use Rattle.threefold.specs.Threefold.{thrice};
-ghost use Rattle.threefold.specs.Votes.{Judged, majority_of, odd_of, voted, whole};
+ghost use Rattle.threefold.specs.Votes.{Judged, majority_of, odd_of, odds_of, voted, whole};
 
 use super::{Thirds, Threefold};
 
@@ -30,6 +30,19 @@ fn odd(a: u8, b: u8, c: u8) -> usize
     usize::from(a != octet) + usize::from(b != octet) + usize::from(c != octet)
 }
 
+// And of three copies of a message.
+fn odds(first: &[u8], second: &[u8], third: &[u8]) -> usize
+    requires { odds_of first.now second.now third.now < 2 ^ 64 }
+    ensures { result ≡ odds_of first.now second.now third.now }
+{
+    first
+        .iter()
+        .zip(second)
+        .zip(third)
+        .map(|((a, b), c)| odd(*a, *b, *c))
+        .sum()
+}
+
 impl<'a> Thirds<'a> {
     pub(super) fn of(coder: Threefold, received: &'a [u8]) -> Thirds<'a>
         requires { length received.now ≡ coder.sizes.word }
@@ -38,21 +51,22 @@ impl<'a> Thirds<'a> {
     {
         let (first, rest) = received.split_at(coder.sizes.frame);
         let (second, third) = rest.split_at(coder.sizes.frame);
-        Thirds { coder, first, second, third }
+        Thirds {
+            coder,
+            first,
+            second,
+            third,
+        }
     }
 
     // How many received octets differ from the word of the voted message, to which no message's word is nearer.
     pub(super) fn faults(&self) -> usize
         ensures { Judged self.now.coder (whole self.now) result }
     {
-        self.first
-            .iter()
-            .zip(self.second)
-            .zip(self.third)
-            .map(|((a, b), c)| odd(*a, *b, *c))
-            .sum()
+        odds(self.first, self.second, self.third)
     }
 
+    // Stays by place: of a slice that `iter_mut` and `zip` walk together a proof knows no element afterwards.
     pub(super) fn write_voted(&self, message: &mut [u8])
         requires { length message.old ≡ self.now.coder.sizes.frame }
         ensures { message.new ≡ voted self.now.coder.sizes.frame (whole self.now) }
