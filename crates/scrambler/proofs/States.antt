@@ -3,7 +3,7 @@ use Rattle.std.proofs.Common.{◌≡◌, ℕ, ◌<◌, List, [], ◌∷◌, leng
 use lib.Bits.{bit_xor}
 use Rattle.scrambler.specs.declared.earlier.Earlier.{Earlier}
 use Rattle.scrambler.specs.Bits.{bits_of, number_of}
-use Rattle.scrambler.specs.Scrambler.{scrambled, descrambled, after}
+use Rattle.scrambler.specs.Scrambler.{scrambled, descrambled, after, opening}
 use Rattle.scrambler.specs.States.{earlier_bits}
 use Rattle.scrambler.proofs.Bits.{length-bits, number_of_bits}
 use Rattle.scrambler.proofs.Steps.{eight_on, eight_taps, on_bits, sent_octet, taken_octet}
@@ -32,3 +32,7 @@ module _ (s : Earlier) where
 
 pub same_state : (s t : Earlier) → earlier_bits s ≡ earlier_bits t → s.bits ≡ t.bits
 same_state s t e = number_held s ∙ ap number_of e ∙ sym (number_held t)
+
+pub all_set : (s : Earlier) → s.bits ≡ 8388607 → earlier_bits s ≡ opening
+unfolding earlier_bits bits_of
+all_set s is = rw is
