@@ -15,6 +15,7 @@ impl Setting {
         self.sizes.repairs
     }
 
+    #[tactic(auto, using(crate::proofs::Facts::way_below, crate::proofs::Facts::whole_below, crate::proofs::Facts::rest_below))]
     fn branch_by_branch(&self) -> usize
         requires { self.now.parts ≤ self.now.step }
         ensures value { result ≡ wide_limit (plan self.now) self.now.sizes.repairs }
@@ -29,11 +30,7 @@ impl Setting {
     pub fn limit_side_by_side(&self) -> Option<usize>
         ensures { SideBySide (plan self.now) result }
     {
-        if self.step == 0 {
-            Some(self.repairs_alone())
-        } else {
-            None
-        }
+        (self.step == 0).then(|| self.repairs_alone())
     }
 
     // Where each branch waits at least a whole word longer than the one before it (M ≥ q), the limit is f×(M×I+1) + r×I,
@@ -41,10 +38,6 @@ impl Setting {
     pub fn limit_of_wide_steps(&self) -> Option<usize>
         ensures { WideSteps (plan self.now) result }
     {
-        if self.step >= self.parts {
-            Some(self.branch_by_branch())
-        } else {
-            None
-        }
+        (self.step >= self.parts).then(|| self.branch_by_branch())
     }
 }
