@@ -7,6 +7,7 @@ ghost use Rattle.setting.specs.Settings.{plan};
 use crate::setting::Setting;
 
 impl Setting {
+    // Stays a worker, as the next one does: merged into its caller, the limit's part of the answer stayed open.
     fn repairs_alone(&self) -> usize
         requires { self.now.step ≡ 0 }
         ensures value { result ≡ self.now.sizes.repairs }
