@@ -2,7 +2,7 @@
 use Rattle.std.proofs.Common.{◌≡◌, ℕ, suc, ◌+◌, ◌-◌, ◌%◌, ◌<◌, ◌≤◌, ◌⊎◌, List, [], ◌∷◌, ◌++◌, length, get_or, take, drop, set, replicate, sym, refl, ap, ◌∙◌, ap₂, inl, inr, append_assoc, append-nil, mod-lt, mod-eq_of_lt, arith, length-drop, length-take, drop-cons, take-suc-set, drop-set-lt}
 use native.Mathlib.Nat.{mod-add-mod, mod_self}
 use lib.Seq.{drop-nil, set_split, take-nil}
-use Rattle.std.proofs.lemmas.List.{drop_all, drop-replicate, replicate-append-replicate, take-replicate}
+use Rattle.std.proofs.lemmas.List.{drop_all, drop-replicate, nil_from_length, replicate-append-replicate, take-replicate}
 use Rattle.std.proofs.lemmas.Bool.{cases_lt}
 use Rattle.std.specs.List.{FoldsTo}
 use Rattle.delay.specs.Queues.{leaves, stays}
@@ -95,13 +95,15 @@ module _ {E : Type 0} where
     pass_waits x = turned_next clock (length ring) ring y some refl ∙ sym (ap (λ q. stays q y) (first x))
 
   -- and through one of none
-  pub pass_none_left : (at : ℕ) (ring : List E) (y : E) → ring ≡ [] → y ≡ leaves (turned at ring) y
+  pub pass_none_left : (at : ℕ) (ring : List E) (y : E) → length ring ≡ 0 → y ≡ leaves (turned at ring) y
   unfolding leaves
-  pass_none_left at ring y e = rw e (sym (ap (λ q. leaves q y) (turned_none at)))
+  pass_none_left at ring y e = rw (nil_from_length ring e) (sym (ap (λ q. leaves q y) (turned_none at)))
 
-  pub pass_none_waits : (at next : ℕ) (ring : List E) (y : E) → ring ≡ [] → turned next ring ≡ stays (turned at ring) y
+  pub pass_none_waits : (at next : ℕ) (ring : List E) (y : E) → length ring ≡ 0 → turned next ring ≡ stays (turned at ring) y
   unfolding stays
-  pass_none_waits at next ring y e = rw e (turned_none next ∙ sym (ap (λ q. stays q y) (turned_none at)))
+  pass_none_waits at next ring y e = rw (nil_from_length ring e) (turned_none next ∙ sym (ap (λ q. stays q y) (turned_none at)))
+
+pub ruleset passing = (pass_left, pass_waits, pass_none_left, pass_none_waits)
 
 -- what the calls of a closure gave that gives one value and stays as it is
 pub filled : {F X : Type 0} (R : F → X → F → Type 0) (f : F) (y : X) → ((x : X) (q : F) → R f x q → (q ≡ f) × (x ≡ y))

@@ -16,6 +16,7 @@ fn fill<E: Copy>(memory: &mut [E], empty: E)
 }
 
 // Pushes an element through a ring: it takes the place of the oldest, which leaves.
+#[tactic(auto, using(crate::proofs::Rings::passing))]
 fn pass<E: Copy>(ring: &mut [E], clock: usize, entering: E) -> E
     ensures left { result ≡ leaves (turned (clock % length ring.old) ring.old) entering }
     ensures waits { turned ((clock + 1) % length ring.old) ring.new ≡ stays (turned (clock % length ring.old) ring.old) entering }
@@ -61,6 +62,7 @@ impl Triangle {
     }
 
     // Goes through the branches as they lie in memory, the shortest first.
+    #[tactic(auto, using(crate::proofs::Places::within))]
     fn turn<E: Copy>(&self, clock: usize, memory: &mut [E], block: &mut [E])
         requires block_len { length block.old ≡ self.now.block }
         requires memory_len { length memory.old ≡ memory_of self.now }

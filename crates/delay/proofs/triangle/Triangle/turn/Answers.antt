@@ -1,25 +1,10 @@
-use Rattle.std.proofs.Common.{◌≡◌, ◌+◌, ◌*◌, ◌≤◌, length, refl, arith, rules}
+use Rattle.std.proofs.Common.{◌≡◌, ◌+◌, ◌*◌, ◌≤◌, length, refl, arith}
 use Rattle.delay.proofs.Places.{within}
 use Rattle.delay.proofs.Turns.{Turning, begin, end, more}
 use Rattle.delay.proofs.triangle.Triangle.turn.Goals as goal
 
 pub loop-rank-init : goal.loop-rank-init
 loop-rank-init g c = begin c.args.self.now c.args.clock c.args.memory.now c.args.block.now
-
-pub overflow_add-end : goal.overflow_add-end
-overflow_add-end g c =
-    let end_of : c.loop-rank.start + c.args.self.now.step * c.loop-rank.rank ≤ length c.args.memory.now
-    = omega (arith, c.loop-rank.invariant.place, within c.args.self.now c.loop-rank.rank c.loop-rank-test.true) in
-    search rules
-
-pub offset_bounds-memory-start : goal.offset_bounds-memory-start
-offset_bounds-memory-start g c =
-    let begins : c.loop-rank.start ≤ length c.loop-rank.memory
-    = omega (arith, c.loop-rank.invariant.place, within c.args.self.now c.loop-rank.rank c.loop-rank-test.true) in
-    search rules
-
-pub slice_bounds-pass-end : goal.slice_bounds-pass-end
-slice_bounds-pass-end g c = omega (arith, c.loop-rank.invariant.place, within c.args.self.now c.loop-rank.rank c.loop-rank-test.true)
 
 pub loop-rank-preserved : goal.loop-rank-preserved
 loop-rank-preserved g c =
