@@ -84,3 +84,9 @@ module _ (s : Setting) where
     λ t. absurd (omega (arith, early, leb-true (s.step * (x % s.block)) (x / s.block) t)),
     λ o. absurd (omega (arith, early, rw o.2 at (there_low laid o.0))),
   )
+
+pub ruleset placing = (place_below, reach_below, place_is)
+
+pub ruleset standing = (wait_below, parts_le, in_time, too_early)
+
+pub ruleset wide_parts = (way_below, whole_below, rest_below)

@@ -10,7 +10,7 @@ use coder::sizes::LONGEST_WORD;
 
 impl Setting {
     // The line place of an octet of word 0.
-    #[tactic(auto, using(crate::proofs::Facts::place_below, crate::proofs::Facts::reach_below, crate::proofs::Facts::place_is))]
+    #[tactic(auto, using(crate::proofs::Facts::placing))]
     fn place_of(&self, octet: usize) -> usize
         requires { octet < self.now.sizes.word }
         ensures value { result ≡ place (plan self.now) 0 octet }
@@ -32,7 +32,7 @@ impl Setting {
     }
 
     // Whether an octet of word 0 stands at a line place.
-    #[tactic(auto, using(crate::proofs::Facts::wait_below, crate::proofs::Facts::parts_le, crate::proofs::Facts::in_time, crate::proofs::Facts::too_early))]
+    #[tactic(auto, using(crate::proofs::Facts::standing))]
     fn stands_at(&self, at: usize) -> bool
         ensures { Decides result ((n : ℕ) × (n < self.now.sizes.word) × (place (plan self.now) 0 n ≡ at)) }
     {

@@ -16,7 +16,7 @@ impl Setting {
         self.sizes.repairs
     }
 
-    #[tactic(auto, using(crate::proofs::Facts::way_below, crate::proofs::Facts::whole_below, crate::proofs::Facts::rest_below))]
+    #[tactic(auto, using(crate::proofs::Facts::wide_parts))]
     fn branch_by_branch(&self) -> usize
         requires { self.now.parts ≤ self.now.step }
         ensures value { result ≡ wide_limit (plan self.now) self.now.sizes.repairs }
