@@ -25,10 +25,7 @@ impl Setting {
     pub fn line_place(&self, octet: usize) -> Option<usize>
         ensures { Placed (plan self.now) octet result }
     {
-        if octet >= self.sizes.word {
-            return None;
-        }
-        Some(self.place_of(octet))
+        (octet < self.sizes.word).then(|| self.place_of(octet))
     }
 
     // Whether an octet of word 0 stands at a line place.

@@ -110,15 +110,15 @@ voted-octets K received octets k = go (cases_lt k K)
     go (inr h) = omega (arith, get_or_past (voted K received) k 0 (omega (arith, voted_long K received)))
 
 -- What counting the odd octets tells.
-pub judged : (t : Thirds) → Judged t.coder (whole t) (odds_of t.first.now t.second.now t.third.now)
-judged t =
+pub judged : (t : Thirds) (n : ℕ) → n ≡ odds_of t.first.now t.second.now t.third.now → Judged t.coder (whole t) n
+judged t n is =
     let K : ℕ = t.coder.sizes.frame in
-    let all = odds_voted K t.first.now t.second.now t.third.now t.one t.two t.three in
+    let all = odds_voted K t.first.now t.second.now t.third.now t.one t.two t.three ∙ sym is in
     record {
       near = λ within. record {
         message = record { long = voted_long K (whole t); octets = voted-octets K (whole t) t.octets };
         differing = all;
         within = within;
       };
-      far = λ far m is. omega (arith, far, odds_nearest K t.first.now t.second.now t.third.now t.one t.two t.three m is.long);
+      far = λ far m of. omega (arith, far, is, odds_nearest K t.first.now t.second.now t.third.now t.one t.two t.three m of.long);
     }

@@ -5,6 +5,7 @@ ghost use Rattle.threefold.specs.Votes.{Judged, majority_of, odd_of, odds_of, vo
 
 use super::{Thirds, Threefold};
 
+#[tactic(auto, using(crate::proofs::Copies::three_copies))]
 pub(super) fn write_thrice(message: &[u8], word: &mut [u8])
     requires { length word.old ≡ 3 * length message.now }
     ensures { word.new ≡ thrice message.now }
@@ -60,13 +61,14 @@ impl<'a> Thirds<'a> {
     }
 
     // How many received octets differ from the word of the voted message, to which no message's word is nearer.
+    #[tactic(auto, using(crate::proofs::Nearest::odds_few, crate::proofs::Nearest::judged))]
     pub(super) fn faults(&self) -> usize
         ensures { Judged self.now.coder (whole self.now) result }
     {
         odds(self.first, self.second, self.third)
     }
 
-    // Stays by place: of a slice that `iter_mut` and `zip` walk together a proof knows no element afterwards.
+    // Stays by place: with `zip` the result stayed open, for of what `iter_mut` lends to an adapter a proof knows no element after.
     pub(super) fn write_voted(&self, message: &mut [u8])
         requires { length message.old ≡ self.now.coder.sizes.frame }
         ensures { message.new ≡ voted self.now.coder.sizes.frame (whole self.now) }
