@@ -128,3 +128,6 @@ returns E t empty sender receiver sent received bs h u k =
         ∙ late-late m n empty f u ∙ ap (λ d. late d empty f u) (waits I M j l)
         ∙ ap (λ y. late (delay_of t) y f u) (sym (get_or-replicate I j empty x l))
         ∙ sym (late-map (λ b. get_or b j x) (delay_of t) (replicate I empty) (λ v. get_or bs v []) u)
+
+pub returns_at : (t : Triangle) (empty d : ℕ) → d ≡ delay_of t → Returns ℕ t empty d
+returns_at t empty d is = rw is (returns ℕ t empty)

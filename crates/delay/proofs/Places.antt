@@ -95,3 +95,6 @@ fills t = record {
         let i = found.0 in
         let b = rank_back t i found.1 in
         (rank_of t i, rank_lt t i found.1, unfold wait_of in rw b (found.2, found.3))
+
+pub fills_at : (t : Triangle) (P : ℕ) → P ≡ memory_of t → Fills t P
+fills_at t P is = rw is (fills t)

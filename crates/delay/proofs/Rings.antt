@@ -1,10 +1,10 @@
 -- A branch as a ring in memory. Assumes nothing.
-use Rattle.std.proofs.Common.{◌≡◌, ℕ, suc, ◌+◌, ◌-◌, ◌%◌, ◌<◌, ◌≤◌, ◌⊎◌, List, [], ◌∷◌, ◌++◌, length, get_or, take, drop, set, replicate, sym, ap, ◌∙◌, ap₂, inl, inr, append_assoc, append-nil, mod-lt, mod-eq_of_lt, arith, length-drop, length-take, get_or-drop, drop-cons, get_or-take, take-suc-set, drop-set-lt}
+use Rattle.std.proofs.Common.{◌≡◌, ℕ, suc, ◌+◌, ◌-◌, ◌%◌, ◌<◌, ◌≤◌, ◌⊎◌, List, [], ◌∷◌, ◌++◌, length, get_or, take, drop, set, replicate, sym, refl, ap, ◌∙◌, ap₂, inl, inr, append_assoc, append-nil, mod-lt, mod-eq_of_lt, arith, length-drop, length-take, drop-cons, take-suc-set, drop-set-lt}
 use native.Mathlib.Nat.{mod-add-mod, mod_self}
-use lib.ListN.{length-replicate}
-use lib.Seq.{drop-nil, drop-set-add, set_split, take-nil, take-set-lt}
-use Rattle.std.proofs.lemmas.List.{drop_all, drop_more, drop-replicate, replicate-append-replicate, replicate_more, set_at, take-replicate}
+use lib.Seq.{drop-nil, set_split, take-nil}
+use Rattle.std.proofs.lemmas.List.{drop_all, drop-replicate, nil_from_length, replicate-append-replicate, take-replicate}
 use Rattle.std.proofs.lemmas.Bool.{cases_lt}
+use Rattle.std.specs.List.{FoldsTo}
 use Rattle.delay.specs.Queues.{leaves, stays}
 use Rattle.delay.specs.Triangles.{part, turned}
 
@@ -69,15 +69,6 @@ module _ {E : Type 0} where
           ∙ unfold turned in append-nil (set ring at y) ∙ set_split ring at y in_ring ∙ ap (λ xs. take at ring ++ y ∷ xs) none
           ∙ sym (ap (λ xs. (xs ++ take at ring) ++ y ∷ []) none)
 
-  -- one element more is cleared
-  pub fill_more : (n : ℕ) (y : E) (xs : List E) → n < length xs
-      → set (replicate n y ++ drop n xs) n y ≡ replicate (n + 1) y ++ drop (n + 1) xs
-  fill_more n y xs h =
-      ap (λ ys. set (replicate n y ++ ys) n y) (drop_more xs n y h)
-      ∙ set_at (replicate n y) (get_or xs n y) (drop (n + 1) xs) y n (length-replicate n y)
-      ∙ sym (append_assoc (replicate n y) (y ∷ []) (drop (n + 1) xs))
-      ∙ ap (λ ys. ys ++ drop (n + 1) xs) (replicate_more n y)
-
   -- a cleared ring
   pub ring_cleared : (clock start n all : ℕ) (y : E) → start + n ≤ all → turned (clock % n) (part start n (replicate all y)) ≡ replicate n y
   ring_cleared clock start n all y h = ap (turned (clock % n)) ring ∙ go (cases_lt 0 n)
@@ -90,35 +81,34 @@ module _ {E : Type 0} where
       go (inr none) = let e : n ≡ 0 = omega arith in rw e (turned_none (clock % 0))
 
   -- one push through a ring of some elements
-  module _ (start n clock : ℕ) (memory : List E) (y : E) (some : 0 < n) (within : start + n ≤ length memory) where
-    ring : List E
-    ring = part start n memory
+  module _ (clock : ℕ) (ring : List E) (y : E) (some : 0 < length ring) where
+    first : (x : E) → turned (clock % length ring) ring
+        ≡ get_or ring (clock % length ring) x ∷ (drop (suc (clock % length ring)) ring ++ take (clock % length ring) ring)
+    first x = turned-first (clock % length ring) ring x (mod-lt clock some)
 
-    whole : length ring ≡ n
-    unfolding ring
-    whole = length_part start n memory within
+    pub pass_left : (x d : E) → x ≡ get_or ring (clock % length ring) d → x ≡ leaves (turned (clock % length ring) ring) y
+    unfolding leaves
+    pass_left x d read = read ∙ sym (ap (λ q. leaves q y) (first d))
 
-    in_ring : clock % n < length ring
-    in_ring = omega (arith, mod-lt clock some, whole)
-
-    first : (x : E) → turned (clock % n) ring ≡ get_or memory (start + clock % n) x ∷ (drop (suc (clock % n)) ring ++ take (clock % n) ring)
-    unfolding ring
-    first x =
-        turned-first (clock % n) ring x in_ring
-        ∙ ap (λ z. z ∷ (drop (suc (clock % n)) ring ++ take (clock % n) ring))
-        (get_or-take n (drop start memory) (clock % n) x (mod-lt clock some) ∙ get_or-drop start memory (clock % n) x)
-
-    pub pass_left : (x : E) → x ≡ get_or memory (start + clock % n) x → x ≡ leaves (turned (clock % n) (part start n memory)) y
-    unfolding leaves ring
-    pass_left x read = read ∙ sym (ap (λ q. leaves q y) (first x))
-
-    pub pass_waits : (x : E) → turned ((clock + 1) % n) (part start n (set memory (start + clock % n) y)) ≡ stays (turned (clock % n) (part start n memory)) y
-    unfolding stays ring
-    pass_waits x =
-        ap (turned ((clock + 1) % n)) (ap (take n) (drop-set-add start memory (clock % n) y) ∙ take-set-lt n (drop start memory) (clock % n) y (mod-lt clock some))
-        ∙ turned_next clock n ring y some whole
-        ∙ sym (ap (λ q. stays q y) (first x))
+    pub pass_waits : (x : E) → turned ((clock + 1) % length ring) (set ring (clock % length ring) y) ≡ stays (turned (clock % length ring) ring) y
+    unfolding stays
+    pass_waits x = turned_next clock (length ring) ring y some refl ∙ sym (ap (λ q. stays q y) (first x))
 
   -- and through one of none
-  pub pass_none : (start n clock : ℕ) (memory : List E) → n ≡ 0 → turned (clock % n) (part start n memory) ≡ []
-  pass_none start n clock memory e = rw e (turned_none (clock % 0))
+  pub pass_none_left : (at : ℕ) (ring : List E) (y : E) → length ring ≡ 0 → y ≡ leaves (turned at ring) y
+  unfolding leaves
+  pass_none_left at ring y e = rw (nil_from_length ring e) (sym (ap (λ q. leaves q y) (turned_none at)))
+
+  pub pass_none_waits : (at next : ℕ) (ring : List E) (y : E) → length ring ≡ 0 → turned next ring ≡ stays (turned at ring) y
+  unfolding stays
+  pass_none_waits at next ring y e = rw (nil_from_length ring e) (turned_none next ∙ sym (ap (λ q. stays q y) (turned_none at)))
+
+pub ruleset passing = (pass_left, pass_waits, pass_none_left, pass_none_waits)
+
+-- what the calls of a closure gave that gives one value and stays as it is
+pub filled : {F X : Type 0} (R : F → X → F → Type 0) (f : F) (y : X) → ((x : X) (q : F) → R f x q → (q ≡ f) × (x ≡ y))
+    → (xs : List X) (last : F) → FoldsTo R f xs last → xs ≡ replicate (length xs) y
+filled R f y one [] last h = refl
+filled R f y one (x ∷ xs) last h =
+    let o = one x h.0 h.1 in
+    ap₂ (λ z zs. z ∷ zs) o.1 (filled R f y one xs last (rw o.0 at h.2))

@@ -1,6 +1,9 @@
 -- One block through all branches, rank by rank. Assumes nothing.
-use Rattle.std.proofs.Common.{◌≡◌, ℕ, ◌+◌, ◌*◌, ◌%◌, ◌<◌, ◌≤◌, ◌≢◌, ◌⊎◌, List, [], ◌∷◌, length, get_or, take, drop, set, replicate, sym, refl, ap, ◌∙◌, ap₂, inl, inr, arith, get_or-set_other, get_or-set_same, take-take, drop-drop}
+use Rattle.std.proofs.Common.{◌≡◌, ℕ, ◌+◌, ◌-◌, ◌*◌, ◌%◌, ◌<◌, ◌≤◌, ◌≢◌, ◌⊎◌, List, [], ◌∷◌, length, get_or, take, drop, set, replicate, sym, refl, ap, ◌∙◌, ap₂, inl, inr, arith, get_or-set_other, get_or-set_same, take-take, drop-drop}
+use borrow.Rule.Slice.PartMut.{put_mid}
+use Rattle.std.specs.List.{between}
 use Rattle.std.proofs.lemmas.List.{drop-take, get_or_read, same_lists}
+use Rattle.std.proofs.lemmas.Slice.{between-put_mid, drop-put_mid, take-put_mid_below}
 use Rattle.std.proofs.lemmas.Bool.{cases_lt}
 use Rattle.delay.specs.declared.triangle.Triangle.{Triangle}
 use Rattle.delay.specs.Queues.{Alike, Bank, leaves, leaving, stays, staying}
@@ -9,7 +12,7 @@ use Rattle.delay.specs.Answers.{Opened, Through}
 use Rattle.delay.proofs.Delays.{delays, returns}
 use Rattle.delay.proofs.Places.{ends_before, rank_back, rank_lt, start_suc, within}
 use Rattle.delay.proofs.Queues.{leaving_at, length-leaving, staying_at}
-use Rattle.delay.proofs.Rings.{ring_cleared}
+use Rattle.delay.proofs.Rings.{length_part, ring_cleared}
 use Rattle.delay.proofs.Runs.{run_on}
 
 -- the ring of rank r as it turns
@@ -48,17 +51,14 @@ module _ {E : Type 0} (t : Triangle) (clock : ℕ) (memory block : List E) where
     yet = λ j h k x. refl;
   }
 
-  -- one branch more
+  -- one branch more, whose ring goes over to `after`
   pub more : {r start : ℕ} {memory' block' : List E} → Turning E t clock r start memory memory' block block' → r < t.block
-      → length block' ≡ t.block → (b : ℕ) → b ≡ rank_of t r → (entering leaver : E) (memory'' : List E)
-      → entering ≡ get_or block' b entering
-      → leaver ≡ leaves (turned (clock % (t.step * r)) (part start (t.step * r) memory')) entering
-      → turned ((clock + 1) % (t.step * r)) (part start (t.step * r) memory'')
-      ≡ stays (turned (clock % (t.step * r)) (part start (t.step * r) memory')) entering
-      → take start memory'' ≡ take start memory'
-      → drop (start + t.step * r) memory'' ≡ drop (start + t.step * r) memory'
-      → Turning E t clock (r + 1) (start + t.step * r) memory memory'' block (set block' b leaver)
-  more {r = r} {start = start} {memory' = memory'} {block' = block'} turning h whole b b-is entering leaver memory'' read leaver-is stays-is before behind = record {
+      → length block' ≡ t.block → start + t.step * r ≤ length memory' → (b : ℕ) → b ≡ rank_of t r → (entering leaver : E) (ring after : List E)
+      → entering ≡ get_or block' b entering → ring ≡ between start (start + t.step * r) memory' → length after ≡ length ring
+      → leaver ≡ leaves (turned (clock % length ring) ring) entering
+      → turned ((clock + 1) % length ring) after ≡ stays (turned (clock % length ring) ring) entering
+      → Turning E t clock (r + 1) (start + t.step * r) memory (put_mid start (start + t.step * r - start) memory' after) block (set block' b leaver)
+  more {r = r} {start = start} {memory' = memory'} {block' = block'} turning h whole inside b b-is entering leaver ring after read ring-is same left-is waits-is = record {
     place = ap (λ s. s + t.step * r) turning.place ∙ sym (start_suc t.step r) ∙ ap (start_at t.step) (omega arith);
     behind = behind ∙ sym (drop-drop wait start memory') ∙ ap (drop wait) turning.behind ∙ drop-drop wait start memory;
     left = λ j l k x. left_at j l x (cases_lt (rank_of t j) r) k;
@@ -68,6 +68,37 @@ module _ {E : Type 0} (t : Triangle) (clock : ℕ) (memory block : List E) where
     where
       wait : ℕ
       wait = t.step * r
+
+      wide : start + wait - start ≡ wait
+      wide = omega arith
+
+      memory'' : List E
+      memory'' = put_mid start (start + wait - start) memory' after
+
+      ring_part : ring ≡ part start wait memory'
+      ring_part = ring-is ∙ ap (λ n. take n (drop start memory')) wide
+
+      ring_long : length ring ≡ wait
+      ring_long = ap length ring_part ∙ length_part start wait memory' inside
+
+      before : take start memory'' ≡ take start memory'
+      before = take-put_mid_below start (start + wait - start) memory' after start (omega arith) (omega arith)
+
+      behind : drop (start + wait) memory'' ≡ drop (start + wait) memory'
+      behind = drop-put_mid start (start + wait - start) memory' after (start + wait) (omega arith) (omega arith) (omega (arith, same, ring_long))
+
+      after_part : part start wait memory'' ≡ after
+      after_part =
+          ap (λ n. take n (drop start memory'')) (sym wide)
+          ∙ between-put_mid start (start + wait - start) memory' after (start + wait) (omega arith) (omega (arith, same, ring_long))
+
+      leaver-is : leaver ≡ leaves (turned (clock % wait) (part start wait memory')) entering
+      leaver-is = left-is ∙ ap₂ (λ n xs. leaves (turned (clock % n) xs) entering) ring_long ring_part
+
+      stays-is : turned ((clock + 1) % wait) (part start wait memory'') ≡ stays (turned (clock % wait) (part start wait memory')) entering
+      stays-is =
+          ap₂ (λ n xs. turned ((clock + 1) % n) xs) (sym ring_long) after_part ∙ waits-is
+          ∙ ap₂ (λ n xs. stays (turned (clock % n) xs) entering) ring_long ring_part
 
       b_lt : b < t.block
       b_lt = rw b-is (rank_lt t r h)

@@ -7,16 +7,9 @@ use crate::lengths::Lengths;
 use crate::triangle::Triangle;
 
 impl Triangle {
-    // P, the elements of memory that the branches take together.
+    // P, the elements of memory that the branches take together: M×I×(I−1)÷2.
+    #[tactic(auto, using(crate::proofs::Places::fills_at))]
     pub fn memory(&self) -> usize
-        ensures value { result ≡ memory_of self.now }
-        ensures branches { Fills self.now result }
-    {
-        self.total()
-    }
-
-    // The branches together: M×I×(I−1)÷2.
-    fn total(&self) -> usize
         ensures value { result ≡ memory_of self.now }
         ensures branches { Fills self.now result }
     {
@@ -24,16 +17,10 @@ impl Triangle {
         self.step as usize * branches * branches.saturating_sub(1) / 2
     }
 
-    // d, the blocks that two lines in a row keep a block, where one has rising lengths and the other falling ones.
+    // d, the blocks that two lines in a row keep a block, where one has rising lengths and the other falling ones. What
+    // waits less at one end waits the rest at the other, so it is what the longest branch waits.
+    #[tactic(auto, using(crate::proofs::Delays::returns_at))]
     pub fn delay(&self) -> usize
-        ensures value { result ≡ delay_of self.now }
-        ensures pair { (empty : ℕ) → Returns ℕ self.now empty result }
-    {
-        self.longest()
-    }
-
-    // The blocks that the longest branch waits. What waits less at one end waits the rest at the other.
-    fn longest(&self) -> usize
         ensures value { result ≡ delay_of self.now }
         ensures pair { (empty : ℕ) → Returns ℕ self.now empty result }
     {

@@ -1,8 +1,16 @@
 -- A message worked through in place, octet after octet. Assumes nothing.
 use Rattle.std.proofs.Common.{◌≡◌, ℕ, ◌+◌, ◌<◌, ◌≤◌, Bool, List, [], ◌∷◌, ◌++◌, length, get_or, take, drop, set, sym, refl, ap, ◌∙◌, ap₂, append_assoc, append-nil, arith, take_all, drop-set-lt}
+use lib.Bits.{bit_xor}
 use Rattle.std.proofs.lemmas.List.{drop_all, drop_more, take_more_set}
-use Rattle.scrambler.specs.Bits.{Octets, octets_of, message_bits}
+use Rattle.scrambler.specs.Bits.{Octets, bits_of, octets_of, message_bits}
 use Rattle.scrambler.specs.Scrambler.{scrambled, descrambled, scrambled_bits, descrambled_bits, after}
+use Rattle.scrambler.specs.declared.earlier.Earlier.{Earlier}
+use Rattle.scrambler.specs.Laws.{Receiving, Sending}
+use Rattle.scrambler.specs.States.{earlier_bits}
+use Rattle.scrambler.proofs.Laws.{receiving, sending}
+use Rattle.scrambler.proofs.Bits.{length-bits}
+use Rattle.scrambler.proofs.States.{held-bits}
+use Rattle.scrambler.proofs.Steps.{eight_on, eight_taps, on_bits, sent_octet, taken_octet}
 use Rattle.scrambler.proofs.Scrambling.{after-append, after_none, descrambled-append, scrambled-append}
 
 -- Messages go by F, and what then stands on the line is L of the message.
@@ -72,3 +80,69 @@ module _ {F L : List Bool → List ℕ → List ℕ} (runs : Runs F L) where
 
     pub all_octets : Octets ms
     all_octets = u.octets (rw (drop_all i now end) tt)
+
+-- The same by the numbers that hold the earlier bits at first and now.
+unfoldable pub Sent : (h₀ h : ℕ) (ms now : List ℕ) (i : ℕ) → Type 0
+Sent h₀ h ms now i = Underway scrambled scrambled (bits_of 23 h₀) (bits_of 23 h) ms now i
+
+unfoldable pub Taken : (h₀ h : ℕ) (xs now : List ℕ) (i : ℕ) → Type 0
+Taken h₀ h xs now i = Underway descrambled (λ e xs. xs) (bits_of 23 h₀) (bits_of 23 h) xs now i
+
+pub send_begun : (h : ℕ) (ms : List ℕ) → Sent h h ms ms 0
+unfolding Sent
+send_begun h ms = begun scrambling (bits_of 23 h) ms
+
+pub take_begun : (h : ℕ) (xs : List ℕ) → Taken h h xs xs 0
+unfolding Taken
+take_begun h xs = begun descrambling (bits_of 23 h) xs
+
+pub send_more : (h₀ h : ℕ) (ms now : List ℕ) (i : ℕ) → Sent h₀ h ms now i → i < length now → get_or now i 0 < 256 → h < 8388608
+    → Sent h₀ (eight_on h (bit_xor (get_or now i 0) (eight_taps h))) ms (set now i (bit_xor (get_or now i 0) (eight_taps h))) (i + 1)
+unfolding Sent
+send_more h₀ h ms now i sent l small held =
+    let one = sent_octet h (get_or now i 0) small in
+    let r = bit_xor (get_or now i 0) (eight_taps h) in
+    turn scrambling (bits_of 23 h₀) (bits_of 23 h) (bits_of 23 (eight_on h r)) ms now i r sent l (length-bits 23 h) small one
+    (on_bits h r held ∙ ap (after (bits_of 23 h)) (sym one))
+
+pub take_more : (h₀ h : ℕ) (xs now : List ℕ) (i : ℕ) → Taken h₀ h xs now i → i < length now → get_or now i 0 < 256 → h < 8388608
+    → Taken h₀ (eight_on h (get_or now i 0)) xs (set now i (bit_xor (get_or now i 0) (eight_taps h))) (i + 1)
+unfolding Taken
+take_more h₀ h xs now i taken l small held =
+    let x = get_or now i 0 in
+    turn descrambling (bits_of 23 h₀) (bits_of 23 h) (bits_of 23 (eight_on h x)) xs now i (bit_xor x (eight_taps h)) taken l
+    (length-bits 23 h) small (taken_octet h x small) (on_bits h x held)
+
+-- and at the end of the octets
+module _ (s₀ s : Earlier) (ms now : List ℕ) (sent : Sent s₀.bits s.bits ms now (length now)) where
+  pub all_sent : now ≡ scrambled (earlier_bits s₀) ms
+  unfolding earlier_bits Sent
+  all_sent = all_made scrambling (bits_of 23 s₀.bits) (bits_of 23 s.bits) ms now (length now) sent (omega arith)
+
+  later_sent : earlier_bits s ≡ after (earlier_bits s₀) (scrambled (earlier_bits s₀) ms)
+  unfolding earlier_bits Sent
+  later_sent = all_later scrambling (bits_of 23 s₀.bits) (bits_of 23 s.bits) ms now (length now) sent (omega arith) (length-bits 23 s.bits)
+
+  pub sent_later : earlier_bits s ≡ after (earlier_bits s₀) now
+  sent_later = later_sent ∙ ap (after (earlier_bits s₀)) (sym all_sent)
+
+  pub sent_laws : Sending (earlier_bits s₀) (earlier_bits s) ms now
+  unfolding earlier_bits Sent
+  sent_laws =
+      sending (earlier_bits s₀) (earlier_bits s) ms now (held-bits s₀)
+      (all_octets scrambling (bits_of 23 s₀.bits) (bits_of 23 s.bits) ms now (length now) sent (omega arith)) all_sent later_sent
+
+module _ (s₀ s : Earlier) (xs now : List ℕ) (taken : Taken s₀.bits s.bits xs now (length now)) where
+  pub all_taken : now ≡ descrambled (earlier_bits s₀) xs
+  unfolding earlier_bits Taken
+  all_taken = all_made descrambling (bits_of 23 s₀.bits) (bits_of 23 s.bits) xs now (length now) taken (omega arith)
+
+  pub taken_later : earlier_bits s ≡ after (earlier_bits s₀) xs
+  unfolding earlier_bits Taken
+  taken_later = all_later descrambling (bits_of 23 s₀.bits) (bits_of 23 s.bits) xs now (length now) taken (omega arith) (length-bits 23 s.bits)
+
+  pub taken_laws : Receiving (earlier_bits s₀) (earlier_bits s) xs now
+  unfolding earlier_bits Taken
+  taken_laws =
+      receiving (earlier_bits s₀) (earlier_bits s) xs now (held-bits s₀)
+      (all_octets descrambling (bits_of 23 s₀.bits) (bits_of 23 s.bits) xs now (length now) taken (omega arith)) all_taken taken_later

@@ -1,7 +1,11 @@
 -- What every setting keeps, in the form that proofs use. Assumes nothing.
-use Rattle.std.proofs.Common.{◌≡◌, ℕ, ◌+◌, ◌*◌, ◌/◌, ◌%◌, ◌^◌, ◌<◌, ◌≤◌, ltb, leb, ◌⊎◌, Decides, ap, inl, inr, mul-le-mul_right, mod-lt, mul-le-mul, mul-le-mul_left, zero-add, zero-mul, mul-one, div-le_self, arith}
+use Rattle.std.proofs.Common.{◌≡◌, ℕ, ◌+◌, ◌*◌, ◌/◌, ◌%◌, ◌^◌, ◌<◌, ◌≤◌, eqb, ltb, leb, Option, ◌⊎◌, Decides, refl, ap, inl, inr, mul-le-mul_right, mod-lt, mul-le-mul, mul-le-mul_left, zero-add, zero-mul, mul-one, div-le_self, arith}
 use native.Mathlib.Nat.{mod-le}
-use Rattle.std.proofs.lemmas.Bool.{cases_lt, leb-true, lt-ltb, ltb-true}
+use Rattle.std.specs.Bool.{then_some}
+use Rattle.std.proofs.lemmas.Bool.{cases_eq, cases_lt, eq-eqb, le-leb, leb-true, lt-leb, lt-ltb, ltb-true, ne_eqb}
+use Rattle.places.specs.Limit.{wide_limit}
+use Rattle.places.proofs.Formulas.{wide_steps, without_interleaving}
+use Rattle.setting.specs.Answers.{SideBySide, WideSteps}
 use Rattle.places.specs.Line.{place}
 use Rattle.places.proofs.Places.{Laid, octet_there, reached, there_high, there_low}
 use Rattle.setting.specs.declared.setting.Setting.{Setting}
@@ -84,3 +88,24 @@ module _ (s : Setting) where
     λ t. absurd (omega (arith, early, leb-true (s.step * (x % s.block)) (x / s.block) t)),
     λ o. absurd (omega (arith, early, rw o.2 at (there_low laid o.0))),
   )
+
+-- the limits by formula
+pub side_by_side : (s : Setting) (r : Option ℕ) → r ≡ then_some (eqb s.step 0) s.sizes.repairs → SideBySide (plan s) r
+side_by_side s r is = rw is (go (cases_eq s.step 0))
+  where
+    go : (s.step ≡ 0) ⊎ (s.step ≡ 0 → ⊥) → SideBySide (plan s) (then_some (eqb s.step 0) s.sizes.repairs)
+    go (inl none) = rw (eq-eqb s.step 0 none) (none, refl, without_interleaving (laid s) s.sizes.repairs none (few s))
+    go (inr some) = rw (ne_eqb s.step 0 some) (omega (arith, some))
+
+pub by_wide_steps : (s : Setting) (r : Option ℕ) → r ≡ then_some (leb s.parts s.step) (wide_limit (plan s) s.sizes.repairs) → WideSteps (plan s) r
+by_wide_steps s r is = rw is (go (cases_lt s.step s.parts))
+  where
+    go : (s.step < s.parts) ⊎ (s.parts ≤ s.step) → WideSteps (plan s) (then_some (leb s.parts s.step) (wide_limit (plan s) s.sizes.repairs))
+    go (inl less) = rw (lt-leb s.parts s.step less) less
+    go (inr wide) = rw (le-leb s.parts s.step wide) (wide, refl, wide_steps (laid s) s.sizes.repairs wide (few s))
+
+pub ruleset placing = (place_below, reach_below, place_is)
+
+pub ruleset standing = (wait_below, parts_le, in_time, too_early)
+
+pub ruleset wide_parts = (way_below, whole_below, rest_below)

@@ -11,6 +11,7 @@ const LARGEST_STEP: usize = 255;
 const MOST_MEMORY: usize = 16384;
 
 // Whether a word can be cut into blocks of this length; one that can has no blocks longer than itself.
+#[tactic(auto, using(crate::proofs::Numbers::divisor_le))]
 fn cuts(block: usize, word: usize) -> bool
     ensures value { result ≡ (nat_lt 0 block && word % block == 0) }
     ensures short { result ≡ true → 0 < word → block ≤ word }
@@ -19,6 +20,7 @@ fn cuts(block: usize, word: usize) -> bool
 }
 
 // M×I×(I−1), twice the elements that the branches hold.
+#[tactic(auto, using(crate::proofs::Numbers::spread_below))]
 fn twice_memory(block: usize, step: usize) -> usize
     requires { (0 < block) × (block ≤ 255) × (step ≤ 255) }
     ensures value { result ≡ step * block * (block - 1) }

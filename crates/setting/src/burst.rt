@@ -10,6 +10,7 @@ use coder::sizes::LONGEST_WORD;
 
 impl Setting {
     // The line place of an octet of word 0.
+    #[tactic(auto, using(crate::proofs::Facts::placing))]
     fn place_of(&self, octet: usize) -> usize
         requires { octet < self.now.sizes.word }
         ensures value { result ≡ place (plan self.now) 0 octet }
@@ -24,13 +25,11 @@ impl Setting {
     pub fn line_place(&self, octet: usize) -> Option<usize>
         ensures { Placed (plan self.now) octet result }
     {
-        if octet >= self.sizes.word {
-            return None;
-        }
-        Some(self.place_of(octet))
+        (octet < self.sizes.word).then(|| self.place_of(octet))
     }
 
     // Whether an octet of word 0 stands at a line place.
+    #[tactic(auto, using(crate::proofs::Facts::standing))]
     fn stands_at(&self, at: usize) -> bool
         ensures { Decides result ((n : ℕ) × (n < self.now.sizes.word) × (place (plan self.now) 0 n ≡ at)) }
     {
@@ -47,13 +46,14 @@ impl Setting {
         ensures longest { Longest (plan self.now) most result }
         ensures sharp { Sharp (plan self.now) most result }
     {
-        let mut held = [0usize; LONGEST_WORD];
+        let mut counts = [0usize; LONGEST_WORD];
+        let counts = &mut counts[..self.sizes.word];
         let mut longest = 0;
         'search: for length in 0..self.reach {
-            for octet in 0..self.sizes.word {
+            for (octet, held) in counts.iter_mut().enumerate() {
                 if self.stands_at(self.place_of(octet) + length) {
-                    held[octet] += 1;
-                    if held[octet] > most {
+                    *held += 1;
+                    if *held > most {
                         break 'search;
                     }
                 }

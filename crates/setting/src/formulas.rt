@@ -1,50 +1,28 @@
 // The burst limit by a formula, where there is one.
-ghost use Rattle.std.specs.Prelude.{◌≡◌, ◌≤◌};
-ghost use Rattle.places.specs.Limit.{BurstLimit, wide_limit};
 ghost use Rattle.setting.specs.Answers.{SideBySide, WideSteps};
 ghost use Rattle.setting.specs.Settings.{plan};
 
 use crate::setting::Setting;
 
 impl Setting {
-    fn repairs_alone(&self) -> usize
-        requires { self.now.step ≡ 0 }
-        ensures value { result ≡ self.now.sizes.repairs }
-        ensures limit { BurstLimit (plan self.now) result }
-    {
-        self.sizes.repairs
-    }
-
-    fn branch_by_branch(&self) -> usize
-        requires { self.now.parts ≤ self.now.step }
-        ensures value { result ≡ wide_limit (plan self.now) self.now.sizes.repairs }
-        ensures limit { BurstLimit (plan self.now) result }
-    {
-        let whole = self.sizes.repairs / self.parts;
-        let rest = self.sizes.repairs % self.parts;
-        whole * (self.step * self.block + 1) + rest * self.block
-    }
-
     // With no interleaving (M = 0) the limit is t.
+    #[tactic(auto, using(crate::proofs::Facts::side_by_side))]
     pub fn limit_side_by_side(&self) -> Option<usize>
         ensures { SideBySide (plan self.now) result }
     {
-        if self.step == 0 {
-            Some(self.repairs_alone())
-        } else {
-            None
-        }
+        (self.step == 0).then_some(self.sizes.repairs)
     }
 
     // Where each branch waits at least a whole word longer than the one before it (M ≥ q), the limit is f×(M×I+1) + r×I,
     // with f the quotient and r the remainder of t by q.
+    #[tactic(auto, using(crate::proofs::Facts::wide_parts, crate::proofs::Facts::by_wide_steps))]
     pub fn limit_of_wide_steps(&self) -> Option<usize>
         ensures { WideSteps (plan self.now) result }
     {
-        if self.step >= self.parts {
-            Some(self.branch_by_branch())
-        } else {
-            None
-        }
+        let whole = self.sizes.repairs / self.parts;
+        let rest = self.sizes.repairs % self.parts;
+        (self.step >= self.parts).then_some(
+            whole * (self.step * self.block + 1) + rest * self.block,
+        )
     }
 }

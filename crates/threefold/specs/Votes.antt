@@ -1,9 +1,10 @@
 -- The message that most copies of a received word speak for: words of the private functions, no public contract cites them.
 -- Assumes nothing.
-use Rattle.std.specs.Prelude.{ℕ, ◌+◌, ◌*◌, ◌<◌, ◌≤◌, cond, List, map, ◌==◌, slice_index}
-use Rattle.std.specs.List.{range_with_len}
+use Rattle.std.specs.Prelude.{ℕ, ◌+◌, ◌*◌, ◌<◌, ◌≤◌, cond, List, ◌++◌, map, sum, ◌==◌, slice_index}
+use Rattle.std.specs.List.{range_with_len, zip}
 use Rattle.coder.specs.Codes.{Near, NoneNear}
 use Rattle.threefold.specs.declared.threefold.Threefold.{Threefold}
+use Rattle.threefold.specs.declared.threefold.Thirds.{Thirds}
 use Rattle.threefold.specs.Threefold.{threefold_code}
 
 -- of three octets the one that two of them are; the first where all differ
@@ -14,16 +15,24 @@ majority_of a b c = cond (b == c) b a
 abbrev pub others : (a b c x : ℕ) → ℕ
 others a b c x = cond (x == a) 0 1 + cond (x == b) 0 1 + cond (x == c) 0 1
 
+-- and how many are not their majority
+abbrev pub odd_of : (a b c : ℕ) → ℕ
+odd_of a b c = others a b c (majority_of a b c)
+
+-- and in three copies of a message, octet by octet
+abbrev pub odds_of : (first second third : List ℕ) → ℕ
+odds_of first second third = sum (map (λ p. odd_of p.0.0 p.0.1 p.1) (zip (zip first second) third))
+
 -- octet i of the message by the three copies of it
 abbrev pub voted_at : (K : ℕ) (received : List ℕ) → ℕ → ℕ
 voted_at K received i = majority_of (slice_index received i) (slice_index received (K + i)) (slice_index received (2 * K + i))
 
--- and how many of the copies are not that octet
-abbrev pub odd_at : (K : ℕ) (received : List ℕ) → ℕ → ℕ
-odd_at K received i = others (slice_index received i) (slice_index received (K + i)) (slice_index received (2 * K + i)) (voted_at K received i)
-
 unfoldable pub voted : (K : ℕ) (received : List ℕ) → List ℕ
 voted K received = map (voted_at K received) (range_with_len 0 K)
+
+-- the received word whose copies these are
+abbrev pub whole : Thirds → List ℕ
+whole c = c.first.now ++ c.second.now ++ c.third.now
 
 -- What the number of octets tells that differ from the voted message's word: it is near, or no message is.
 pub record Judged (coder : Threefold) (received : List ℕ) (faults : ℕ) : Type 0 where

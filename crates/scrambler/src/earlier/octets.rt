@@ -13,6 +13,7 @@ impl Earlier {
     }
 
     // The earlier bits when this octet has gone over the line.
+    #[tactic(auto, using(crate::proofs::Steps::on_below))]
     pub(super) fn followed_by(self, sent: u8) -> Earlier
         ensures { result.bits ≡ bit_or (self.bits / 2 ^ 8) (sent * 2 ^ 15) }
     {

@@ -8,18 +8,12 @@ use super::Earlier;
 const ONES: u32 = 0x7f_ffff;
 
 impl Earlier {
-    fn all_set() -> Earlier
-        ensures bits { earlier_bits result ≡ opening }
-        ensures sample { Sample }
-    {
-        Earlier { bits: ONES }
-    }
-
     // 23 ones.
+    #[tactic(auto, using(crate::proofs::Scrambling::sample, crate::proofs::States::all_set))]
     pub fn ones() -> Earlier
         ensures bits { earlier_bits result ≡ opening }
         ensures sample { Sample }
     {
-        Earlier::all_set()
+        Earlier { bits: ONES }
     }
 }

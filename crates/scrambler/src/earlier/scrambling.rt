@@ -7,44 +7,32 @@ ghost use Rattle.scrambler.specs.States.{earlier_bits};
 use super::Earlier;
 
 impl Earlier {
-    fn scramble_each(&mut self, octets: &mut [u8])
-        ensures sent { octets.new ≡ scrambled (earlier_bits self.old) octets.old }
-        ensures later { earlier_bits self.new ≡ after (earlier_bits self.old) octets.new }
-        ensures laws { Sending (earlier_bits self.old) (earlier_bits self.new) octets.old octets.new }
-    {
-        for octet in octets.iter_mut() {
-            *octet = self.mixed(*octet);
-            *self = self.followed_by(*octet);
-        }
-    }
-
-    fn descramble_each(&mut self, octets: &mut [u8])
-        ensures given { octets.new ≡ descrambled (earlier_bits self.old) octets.old }
-        ensures later { earlier_bits self.new ≡ after (earlier_bits self.old) octets.old }
-        ensures laws { Receiving (earlier_bits self.old) (earlier_bits self.new) octets.old octets.new }
-    {
-        for octet in octets.iter_mut() {
-            let received = *octet;
-            *octet = self.mixed(received);
-            *self = self.followed_by(received);
-        }
-    }
-
     // Scrambles a message where it stands. The bits sent become the earlier bits of the next message.
+    #[tactic(auto, using(crate::proofs::Loops::send_begun, crate::proofs::Loops::send_more))]
     pub fn scramble(&mut self, octets: &mut [u8])
         ensures sent { octets.new ≡ scrambled (earlier_bits self.old) octets.old }
         ensures later { earlier_bits self.new ≡ after (earlier_bits self.old) octets.new }
         ensures laws { Sending (earlier_bits self.old) (earlier_bits self.new) octets.old octets.new }
     {
-        self.scramble_each(octets);
+        for octet in octets.iter_mut() {
+            let sent = self.mixed(*octet);
+            *self = self.followed_by(sent);
+            *octet = sent;
+        }
     }
 
     // Gives the message back where the received octets stand. The bits received become the earlier bits of the next message.
+    #[tactic(auto, using(crate::proofs::Loops::take_begun, crate::proofs::Loops::take_more))]
     pub fn descramble(&mut self, octets: &mut [u8])
         ensures given { octets.new ≡ descrambled (earlier_bits self.old) octets.old }
         ensures later { earlier_bits self.new ≡ after (earlier_bits self.old) octets.old }
         ensures laws { Receiving (earlier_bits self.old) (earlier_bits self.new) octets.old octets.new }
     {
-        self.descramble_each(octets);
+        // Stays a loop beside the sender's: which octet goes over the line differs, and a shared loop's contract would take both laws.
+        for octet in octets.iter_mut() {
+            let given = self.mixed(*octet);
+            *self = self.followed_by(*octet);
+            *octet = given;
+        }
     }
 }

@@ -1,8 +1,11 @@
 // The three copies of a message in a word.
-ghost use Rattle.std.specs.Prelude.{◌≡◌, ◌*◌, ◌<◌, ◌≤◌, length};
+ghost use Rattle.std.specs.Prelude.{◌≡◌, ◌*◌, ◌^◌, ◌<◌, length};
 ghost use Rattle.threefold.specs.Threefold.{thrice};
-ghost use Rattle.threefold.specs.Votes.{majority_of, voted_at, odd_at};
+ghost use Rattle.threefold.specs.Votes.{Judged, majority_of, odd_of, odds_of, voted, whole};
 
+use super::{Thirds, Threefold};
+
+#[tactic(auto, using(crate::proofs::Copies::three_copies))]
 pub(super) fn write_thrice(message: &[u8], word: &mut [u8])
     requires { length word.old ≡ 3 * length message.now }
     ensures { word.new ≡ thrice message.now }
@@ -20,26 +23,58 @@ fn majority(a: u8, b: u8, c: u8) -> u8
     if b == c { b } else { a }
 }
 
-// An octet of the message by the three copies of it.
-pub(super) fn voted_octet(received: &[u8], frame: usize, place: usize) -> u8
-    requires { (length received.now ≡ 3 * frame) × (place < frame) }
-    ensures { result ≡ voted_at frame received.now place }
+// How many of three octets are not their majority.
+fn odd(a: u8, b: u8, c: u8) -> usize
+    ensures { result ≡ odd_of a b c }
 {
-    majority(
-        received[place],
-        received[frame + place],
-        received[2 * frame + place],
-    )
+    let octet = majority(a, b, c);
+    usize::from(a != octet) + usize::from(b != octet) + usize::from(c != octet)
 }
 
-// How many of the three copies are another octet.
-pub(super) fn odd_octets(received: &[u8], frame: usize, place: usize) -> usize
-    requires { (length received.now ≡ 3 * frame) × (place < frame) }
-    ensures value { result ≡ odd_at frame received.now place }
-    ensures bound { result ≤ 3 }
+// And of three copies of a message.
+fn odds(first: &[u8], second: &[u8], third: &[u8]) -> usize
+    requires { odds_of first.now second.now third.now < 2 ^ 64 }
+    ensures { result ≡ odds_of first.now second.now third.now }
 {
-    let octet = voted_octet(received, frame, place);
-    usize::from(received[place] != octet)
-        + usize::from(received[frame + place] != octet)
-        + usize::from(received[2 * frame + place] != octet)
+    first
+        .iter()
+        .zip(second)
+        .zip(third)
+        .map(|((a, b), c)| odd(*a, *b, *c))
+        .sum()
+}
+
+impl<'a> Thirds<'a> {
+    pub(super) fn of(coder: Threefold, received: &'a [u8]) -> Thirds<'a>
+        requires { length received.now ≡ coder.sizes.word }
+        ensures coder { result.coder ≡ coder }
+        ensures whole { whole result ≡ received.now }
+    {
+        let (first, rest) = received.split_at(coder.sizes.frame);
+        let (second, third) = rest.split_at(coder.sizes.frame);
+        Thirds {
+            coder,
+            first,
+            second,
+            third,
+        }
+    }
+
+    // How many received octets differ from the word of the voted message, to which no message's word is nearer.
+    #[tactic(auto, using(crate::proofs::Nearest::odds_few, crate::proofs::Nearest::judged))]
+    pub(super) fn faults(&self) -> usize
+        ensures { Judged self.now.coder (whole self.now) result }
+    {
+        odds(self.first, self.second, self.third)
+    }
+
+    // Stays by place: with `zip` the result stayed open, for of what `iter_mut` lends to an adapter a proof knows no element after.
+    pub(super) fn write_voted(&self, message: &mut [u8])
+        requires { length message.old ≡ self.now.coder.sizes.frame }
+        ensures { message.new ≡ voted self.now.coder.sizes.frame (whole self.now) }
+    {
+        for (place, octet) in message.iter_mut().enumerate() {
+            *octet = majority(self.first[place], self.second[place], self.third[place]);
+        }
+    }
 }
