@@ -12,14 +12,6 @@ fn line(block: u8, step: u8, lengths: Lengths) -> Triangle {
     }
 }
 
-// 0 where nothing was refused
-fn number(answer: Result<(), Misfit>) -> u8 {
-    match answer {
-        Ok(()) => 0,
-        Err(misfit) => misfit.number(),
-    }
-}
-
 #[test]
 fn sizes(rt: HostRuntime) {
     // I, M, P and d
@@ -43,11 +35,15 @@ fn sizes(rt: HostRuntime) {
 }
 
 // Each row: a block that is pushed, and the one that leaves.
-fn octets(rt: &impl Abort, line: &Triangle, memory: &mut [u8], rows: &[([u8; 3], [u8; 3])]) {
+fn pushes<E: Copy + Eq>(
+    rt: &impl Abort,
+    line: &Triangle,
+    memory: &mut [E],
+    rows: &[([E; 3], [E; 3])],
+) {
     for (clock, (entering, leaving)) in rows.iter().enumerate() {
-        let [first, second, third] = *entering;
-        let mut block = [first, second, third];
-        assert_eq!(rt; number(line.push(clock, memory, &mut block)), 0);
+        let mut block = *entering;
+        assert_eq!(rt; line.push(clock, memory, &mut block), Ok(()));
         assert!(rt; block == *leaving);
     }
 }
@@ -56,7 +52,7 @@ fn octets(rt: &impl Abort, line: &Triangle, memory: &mut [u8], rows: &[([u8; 3],
 fn rising_lengths(rt: HostRuntime) {
     let sender = line(3, 1, Lengths::Rising);
     let mut memory = [9; 3];
-    assert_eq!(rt; number(sender.clear(&mut memory, 0)), 0);
+    assert_eq!(rt; sender.clear(&mut memory, 0), Ok(()));
     let rows = [
         ([1, 2, 3], [1, 0, 0]),
         ([4, 5, 6], [4, 2, 0]),
@@ -64,64 +60,46 @@ fn rising_lengths(rt: HostRuntime) {
         ([10, 11, 12], [10, 8, 6]),
         ([13, 14, 15], [13, 11, 9]),
     ];
-    octets(&rt, &sender, &mut memory, &rows);
+    pushes(&rt, &sender, &mut memory, &rows);
 }
 
 // Branch 0 waits two blocks, branch 1 one block, and branch 2 none.
-fn arrivals(
-    rt: &impl Abort,
-    line: &Triangle,
-    memory: &mut [Arrival],
-    rows: &[([u8; 3], [Arrival; 3])],
-) {
-    for (clock, (entering, leaving)) in rows.iter().enumerate() {
-        let [first, second, third] = *entering;
-        let mut block = [
-            Arrival::Octet(first),
-            Arrival::Octet(second),
-            Arrival::Octet(third),
-        ];
-        assert_eq!(rt; number(line.push(clock, memory, &mut block)), 0);
-        assert!(rt; block == *leaving);
-    }
-}
-
 #[test]
 fn falling_lengths(rt: HostRuntime) {
     let receiver = line(3, 1, Lengths::Falling);
     let mut memory = [Arrival::Octet(9); 3];
-    assert_eq!(rt; number(receiver.clear(&mut memory, Arrival::Lost)), 0);
+    assert_eq!(rt; receiver.clear(&mut memory, Arrival::Lost), Ok(()));
     let rows = [
-        ([1, 2, 3], [Arrival::Lost, Arrival::Lost, Arrival::Octet(3)]),
         (
-            [4, 5, 6],
+            [1, 2, 3].map(Arrival::Octet),
+            [Arrival::Lost, Arrival::Lost, Arrival::Octet(3)],
+        ),
+        (
+            [4, 5, 6].map(Arrival::Octet),
             [Arrival::Lost, Arrival::Octet(2), Arrival::Octet(6)],
         ),
         (
-            [7, 8, 9],
+            [7, 8, 9].map(Arrival::Octet),
             [Arrival::Octet(1), Arrival::Octet(5), Arrival::Octet(9)],
         ),
         (
-            [10, 11, 12],
+            [10, 11, 12].map(Arrival::Octet),
             [Arrival::Octet(4), Arrival::Octet(8), Arrival::Octet(12)],
         ),
     ];
-    arrivals(&rt, &receiver, &mut memory, &rows);
+    pushes(&rt, &receiver, &mut memory, &rows);
 }
 
 // Both ends in a row: what leaves the one enters the other.
 fn both(rt: &impl Abort, sent: &mut [u8], received: &mut [u8]) {
     let sender = line(3, 2, Lengths::Rising);
     let receiver = line(3, 2, Lengths::Falling);
-    assert_eq!(rt; number(sender.clear(sent, 0)), 0);
-    assert_eq!(rt; number(receiver.clear(received, 0)), 0);
+    assert_eq!(rt; sender.clear(sent, 0), Ok(()));
+    assert_eq!(rt; receiver.clear(received, 0), Ok(()));
     for clock in 0..10u8 {
         let mut block = [clock + 1, clock + 101, clock + 201];
-        assert_eq!(rt; number(sender.push(clock as usize, sent, &mut block)), 0);
-        assert_eq!(rt;
-            number(receiver.push(clock as usize, received, &mut block)),
-            0
-        );
+        assert_eq!(rt; sender.push(clock as usize, sent, &mut block), Ok(()));
+        assert_eq!(rt; receiver.push(clock as usize, received, &mut block), Ok(()));
         if clock < 4 {
             assert!(rt; block == [0; 3]);
         } else {
@@ -137,15 +115,15 @@ fn both_ends(rt: HostRuntime) {
 
 #[test]
 fn no_delay(rt: HostRuntime) {
-    octets(
+    pushes(
         &rt,
         &line(3, 0, Lengths::Falling),
         &mut [],
         &[([1, 2, 3], [1, 2, 3]), ([4, 5, 6], [4, 5, 6])],
     );
     assert_eq!(rt;
-        number(line(0, 9, Lengths::Rising).push(5, &mut [0; 0], &mut [])),
-        0
+        line(0, 9, Lengths::Rising).push(5, &mut [0; 0], &mut []),
+        Ok(())
     );
 }
 
@@ -154,12 +132,27 @@ fn no_delay(rt: HostRuntime) {
 fn refusals(rt: HostRuntime) {
     let sender = line(3, 1, Lengths::Rising);
     let mut memory = [1, 2, 3, 4];
-    assert_eq!(rt; number(sender.clear(&mut memory, 0)), 7);
-    assert_eq!(rt; number(sender.push(0, &mut memory, &mut [5, 6])), 6);
-    assert_eq!(rt; number(sender.push(0, &mut memory, &mut [5, 6, 7])), 7);
     assert_eq!(rt;
-        number(sender.push(0, &mut [1, 2, 3], &mut [5, 6, 7, 8])),
-        6
+        sender.clear(&mut memory, 0).map_err(Misfit::number),
+        Err(7)
+    );
+    assert_eq!(rt;
+        sender
+            .push(0, &mut memory, &mut [5, 6])
+            .map_err(Misfit::number),
+        Err(6)
+    );
+    assert_eq!(rt;
+        sender
+            .push(0, &mut memory, &mut [5, 6, 7])
+            .map_err(Misfit::number),
+        Err(7)
+    );
+    assert_eq!(rt;
+        sender
+            .push(0, &mut [1, 2, 3], &mut [5, 6, 7, 8])
+            .map_err(Misfit::number),
+        Err(6)
     );
     assert!(rt; memory == [1, 2, 3, 4]);
 }

@@ -20,7 +20,7 @@ fn other(frame: usize, word: usize, repairs: usize) -> Result<Setting, Refusal> 
 
 // Accepted, or the refusal's number.
 fn judged(answer: Result<Setting, Refusal>) -> Result<(), u8> {
-    answer.map(|_| ()).map_err(|refusal| refusal.number())
+    answer.map(|_| ()).map_err(Refusal::number)
 }
 
 #[test]

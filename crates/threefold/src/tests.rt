@@ -5,28 +5,25 @@ use std::test::Fail;
 
 const HUGE: usize = usize::MAX;
 
-// 0 where a coder is accepted
-fn number(answer: Result<Threefold, Refusal>) -> u8 {
-    match answer {
-        Ok(_) => 0,
-        Err(refusal) => refusal.number(),
-    }
+// Accepted, or the refusal's number.
+fn judged(answer: Result<Threefold, Refusal>) -> Result<(), u8> {
+    answer.map(|_| ()).map_err(Refusal::number)
 }
 
 #[test]
 fn coders_at_the_edges(rt: HostRuntime) -> Result<(), Fail> {
-    for (frame, check, refusal) in [
-        (2, 0, 1),
-        (3, 0, 0),
-        (85, 0, 0),
-        (86, 0, 1),
-        (3, 1, 1),
-        (85, 1, 1),
-        (0, 0, 1),
-        (HUGE, 0, 1),
-        (3, HUGE, 1),
+    for (frame, check, answer) in [
+        (2, 0, Err(1)),
+        (3, 0, Ok(())),
+        (85, 0, Ok(())),
+        (86, 0, Err(1)),
+        (3, 1, Err(1)),
+        (85, 1, Err(1)),
+        (0, 0, Err(1)),
+        (HUGE, 0, Err(1)),
+        (3, HUGE, Err(1)),
     ] {
-        assert_eq!(rt; number(Threefold::new(frame, check)), refusal);
+        assert_eq!(rt; judged(Threefold::new(frame, check)), answer);
     }
     let sizes = Threefold::new(85, 0)?.sizes();
     assert_eq!(rt; (sizes.frame, sizes.word, sizes.repairs), (85, 255, 1));
