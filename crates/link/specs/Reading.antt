@@ -1,35 +1,18 @@
--- What a gathered word gives, and each layer's answer with what it adds to it. Assumes nothing.
+-- What a gathered word gives, layer by layer. Assumes nothing.
 use Rattle.std.specs.Prelude.{◌≡◌, ℕ, List, map, Ok, Err, Result}
 use Prim.{⊥, tt}
 use Rattle.coder.specs.Arrivals.{value_of}
 use Rattle.coder.specs.Codes.{Code, Near, NoneNear}
 use Rattle.coder.specs.declared.arrival.Arrival.{Arrival}
-use Rattle.coder.specs.declared.undecoded.Undecoded.{Undecoded}
-use Rattle.coder.specs.declared.undecoded.Undecoded.TheVariants as undecoded
 use Rattle.setting.specs.Settings.{plan}
 use Rattle.runs.specs.Receivers.{Gives, Received, delivered, marks_in, receive_answer}
 use Rattle.runs.specs.Receivers as runs
 use Rattle.link.specs.declared.loss.Cause.TheVariants.{Coder, Scrambler}
-use Rattle.link.specs.declared.loss.Unreceived.{Unreceived}
-use Rattle.link.specs.declared.loss.Unreceived.TheVariants as unreceived
-use Rattle.link.specs.declared.refused.Refused.TheVariants as refused
 use Rattle.link.specs.declared.receiver.Running.{Running}
 use Rattle.link.specs.declared.unread.Unread.{Unread}
 use Rattle.link.specs.declared.unread.Unread.TheVariants.{Unfit, Lost}
 use Rattle.link.specs.Losses.{answer_of}
 use Rattle.link.specs.Receivers.{running}
-
--- a word layer's answer: a loss with the count of lost marks
-abbrev pub marked_with : (marks : ℕ) → Result ℕ Undecoded → Result ℕ Unread
-marked_with marks (Ok repaired) = Ok repaired
-marked_with marks (Err undecoded.Lost) = Err (Lost (Coder marks))
-marked_with marks (Err (undecoded.Unfit misfit)) = Err (Unfit misfit)
-
--- a receive's answer: a loss with its word's number
-abbrev pub at_word : (word : ℕ) → Result ℕ Unread → Result ℕ Unreceived
-at_word word (Ok repaired) = Ok repaired
-at_word word (Err (Lost cause)) = Err (unreceived.Lost (record { cause = cause; word = word }))
-at_word word (Err (Unfit misfit)) = Err (unreceived.Refused (refused.Unfit misfit))
 
 -- the message that a word gives
 abbrev pub Messages : Code → (word : List Arrival) (message : List ℕ) → Result ℕ Unread → Type 0

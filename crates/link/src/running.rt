@@ -8,8 +8,8 @@ ghost use Rattle.link.specs.Refusals.{told};
 
 use crate::fitting::{frame_fits, line_fits};
 use crate::gathering::{memory_length, next_word};
-use crate::loss::{Cause, Unreceived};
-use crate::reading::{at_word, message_of};
+use crate::loss::{Cause, Loss, Unreceived};
+use crate::reading::message_of;
 use crate::receiver::Running;
 use crate::refused::Refused;
 use crate::unread::Unread;
@@ -132,7 +132,11 @@ impl Running {
     {
         self.takes(coder, memory, line, frame)?;
         let word = self.words;
-        at_word(self.receive_word(coder, memory, line, frame), word)
+        self.receive_word(coder, memory, line, frame)
+            .map_err(|unread| match unread {
+                Unread::Lost(cause) => Unreceived::Lost(Loss { cause, word }),
+                Unread::Unfit(misfit) => Unreceived::Refused(Refused::Unfit(misfit)),
+            })
     }
 
     // Ends the receiver. What waits in its memory is let go.
