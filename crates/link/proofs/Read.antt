@@ -2,7 +2,6 @@
 use Rattle.std.proofs.Common.{◌≡◌, ℕ, ◌+◌, ◌*◌, List, Ok, Err, Result, ◌∙◌, subst, arith}
 use Rattle.coder.specs.Codes.{Code}
 use Rattle.coder.specs.declared.arrival.Arrival.{Arrival}
-use Rattle.scrambler.specs.States.{earlier_bits}
 use Rattle.setting.specs.Settings.{plan}
 use Rattle.runs.specs.Receivers.{Answer, Gives, Received, coder_loss, delivered, scrambler_loss}
 use Rattle.runs.specs.Receivers as runs
@@ -12,7 +11,7 @@ use Rattle.link.specs.declared.unread.Unread.TheVariants.{Unfit, Lost}
 use Rattle.link.specs.Gathering.{Gathered}
 use Rattle.link.specs.Losses.{answer_of}
 use Rattle.link.specs.Reading.{Frames, Takes}
-use Rattle.link.specs.Receivers.{running}
+use Rattle.link.specs.Receivers.{known_bits, lost_last, running}
 
 -- what a word gives does not hang on how many words there were
 uncounted : (c : Code) (s s' : runs.Running) (count : ℕ) (word : List Arrival) (answer : Answer)
@@ -24,7 +23,7 @@ uncounted c s s' count word scrambler_loss gives = gives
 module _ (c : Code) (s s' : Running) (memory memory' line word : List Arrival) (count : ℕ) (counts : s'.words ≡ s.words + 1)
     (gathered : Gathered (plan s.setting) ((s.setting.lag + s.words) * s.setting.parts) memory memory' line word) where
   abbrev counted : runs.Running
-  counted = record { earlier = earlier_bits s.earlier; words = count; broken = s.broken }
+  counted = record { earlier = known_bits s.earlier; words = count; broken = lost_last s.earlier }
 
   received : (answer : Answer) → Gives c counted (running s') word answer
       → Received (plan s.setting) c (running s) (running s') memory memory' line answer

@@ -72,9 +72,8 @@ impl Filling {
         }
         Ok(Running {
             setting: self.setting,
-            earlier: Earlier::ones(),
+            earlier: Some(Earlier::ones()),
             words: 0,
-            broken: false,
         })
     }
 }

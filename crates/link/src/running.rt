@@ -59,15 +59,12 @@ impl Running {
         ensures setting { self.new.setting ≡ self.old.setting }
         ensures words { self.new.words ≡ self.old.words }
     {
-        let broken = self.broken;
-        let mut earlier = self.earlier;
-        self.broken = true;
-        self.earlier = Earlier::ones();
+        let before = self.earlier.take();
         let repaired = message_of(coder, word, message)?;
+        let mut earlier = before.unwrap_or(Earlier::ones());
         earlier.descramble(message);
-        self.broken = false;
-        self.earlier = earlier;
-        if broken {
+        self.earlier = Some(earlier);
+        if before.is_none() {
             return Err(Unread::Lost(Cause::Scrambler));
         }
         Ok(repaired)
