@@ -1,15 +1,12 @@
 -- The sender's interleaver as a delay line. Assumes nothing.
-use Rattle.std.proofs.Common.{◌≡◌, ℕ, ◌+◌, ◌-◌, ◌*◌, ◌<◌, ◌≤◌, List, length, Ok, Err, Result, sym, ap, ◌∙◌, mul-le-mul, div-le_self, arith}
-use Prim.{Unit}
-use Rattle.coder.specs.declared.misfit.Misfit.{Misfit}
+use Rattle.std.proofs.Common.{◌≡◌, ℕ, ◌+◌, ◌-◌, ◌*◌, ◌<◌, ◌≤◌, sym, ap, ◌∙◌, mul-le-mul, div-le_self, arith}
+use Rattle.delay.specs.declared.lengths.Lengths.{Lengths}
 use Rattle.delay.specs.declared.triangle.Triangle.{Triangle}
-use Rattle.delay.specs.Triangles.{memory_of, rising}
+use Rattle.delay.specs.Triangles.{memory_of}
 use Rattle.setting.specs.declared.setting.Setting.{Setting}
 use Rattle.setting.specs.Relations.{delay_of}
-use Rattle.setting.specs.Settings.{plan}
 use Rattle.setting.proofs.Facts.{block_le, parts_le}
-use Rattle.link.specs.Passing.{Passed, Passes}
-use Rattle.link.specs.Workers.{Interleaved}
+use Rattle.link.specs.Passing.{line_of}
 
 module _ (s : Setting) where
   -- the blocks of 2^24 words are fewer than 2^32 − 256
@@ -25,20 +22,10 @@ module _ (s : Setting) where
   pub entered_below : (words drained : ℕ) → words ≤ 1000000 → drained ≤ s.lag → words + drained < 16777216
   entered_below words drained few drains = omega (arith, s.lags, s.delays, delay_below, div-le_self (delay_of s.block s.step) s.parts)
 
-  -- what the delay line needs of the lengths
-  pub fits : (t : Triangle) → t ≡ rising s.block s.step → (words : ℕ) → words < 16777216
-      → (memory line : List ℕ) → length memory ≡ s.memory → length line ≡ s.sizes.word
-      → (length line ≡ s.parts * t.block) × (length memory ≡ memory_of t) × (words * s.parts + s.parts < 4294967296)
-  fits t t-is words h memory line remembered long = (
-    long ∙ sym s.cut.1 ∙ ap (λ (u : Triangle). s.parts * u.block) (sym t-is),
-    remembered ∙ s.remembers ∙ ap memory_of (sym t-is),
-    clock_below words h,
-  )
+  module _ (t : Triangle) (lengths : Lengths) (is : t ≡ line_of s lengths) where
+    -- what the delay line needs of the lengths
+    pub cut_by : {n : ℕ} → n ≡ s.sizes.word → n ≡ s.parts * t.block
+    cut_by long = long ∙ sym s.cut.1 ∙ ap (λ (u : Triangle). s.parts * u.block) (sym is)
 
-  pub interleaved : (t : Triangle) → t ≡ rising s.block s.step → (clock : ℕ) (memory memory' word word' : List ℕ)
-      → (r : Result (Unit {0}) Misfit) → Passes ℕ t s.parts clock memory memory' word word' r
-      → Interleaved (plan s) clock memory memory' word word' r
-  interleaved t t-is clock memory memory' word word' (Ok u) passed =
-      let as-rising : Passed ℕ (rising s.block s.step) s.parts clock memory memory' word word' = rw t-is at passed in
-      record { line_octets = as-rising.leaves; waits = as-rising.waits; size = as-rising.size }
-  interleaved t t-is clock memory memory' word word' (Err e) none = none
+    pub filled_by : {n : ℕ} → n ≡ s.memory → n ≡ memory_of t
+    filled_by remembered = remembered ∙ s.remembers ∙ ap memory_of (sym is)

@@ -1,12 +1,9 @@
 -- A word of arrivals through a receiver's delay line and the word gathered behind it. Assumes nothing.
-use Rattle.std.proofs.Common.{◌≡◌, ℕ, suc, ◌+◌, ◌-◌, ◌*◌, ◌<◌, ◌≤◌, ◌⊎◌, List, [], ◌++◌, length, take, drop, sym, ap, ◌∙◌, subst, ap₂, inl, inr, arith}
+use Rattle.std.proofs.Common.{◌≡◌, ℕ, suc, ◌+◌, ◌-◌, ◌*◌, ◌<◌, ◌≤◌, ◌⊎◌, List, [], ◌++◌, length, take, drop, sym, ap, ◌∙◌, ap₂, inl, inr, arith}
 use Rattle.std.proofs.lemmas.List.{drop_all, length-take-le}
 use Rattle.std.proofs.lemmas.Bool.{cases_lt}
 use Rattle.coder.specs.declared.arrival.Arrival.{Arrival}
-use Rattle.delay.specs.declared.triangle.Triangle.{Triangle}
-use Rattle.delay.specs.Queues.{Alike}
 use Rattle.delay.specs.Triangles.{falling, queue}
-use Rattle.runs.specs.Blocks.{through, left}
 use Rattle.places.specs.Line.{Plan}
 use Rattle.runs.specs.Receivers.{Filled, kept, gathered, delayed}
 use Rattle.setting.specs.declared.setting.Setting.{Setting}
@@ -28,20 +25,8 @@ module _ (s : Setting) (clock : ℕ) (memory line : List Arrival) (whole : lengt
   abbrev n : ℕ
   n = kept (plan s) s.lag
 
-  module _ (t : Triangle) (entering leaving waiting : List Arrival) (te : t ≡ falling s.block s.step) (ee : entering ≡ line)
-      (passed : Passed Arrival t s.parts clock (take P memory) waiting entering leaving) where
-    leaves : leaving ≡ delayed (plan s) clock memory line
-    leaves =
-        passed.leaves ∙ ap (λ (u : Triangle). through u.block s.parts (queue u clock (take P memory)) entering) te
-        ∙ ap (through s.block s.parts (queue (falling s.block s.step) clock (take P memory))) ee
-
-    waits : Alike s.block (queue (falling s.block s.step) (clock + s.parts) waiting)
-        (left s.block s.parts (queue (falling s.block s.step) clock (take P memory)) line)
-    waits =
-        subst (λ (u : Triangle). Alike u.block (queue u (clock + s.parts) waiting) (left u.block s.parts (queue u clock (take P memory)) line)) te
-        (subst (λ (xs : List Arrival). Alike t.block (queue t (clock + s.parts) waiting) (left t.block s.parts (queue t clock (take P memory)) xs)) ee
-        passed.waits)
-
+  module _ (leaving waiting : List Arrival)
+      (passed : Passed Arrival (falling s.block s.step) s.parts clock (take P memory) waiting line leaving) where
     waiting_long : length waiting ≡ P
     waiting_long = passed.size ∙ length-take-le P memory (omega arith)
 
@@ -56,12 +41,12 @@ module _ (s : Setting) (clock : ℕ) (memory line : List Arrival) (whole : lengt
         let rest : length leaving - n ≡ N - n = omega arith in
         record {
           delays = record {
-            waits = λ j h. ap (λ xs. queue (falling s.block s.step) (clock + s.parts) xs j) (first_part P N memory waiting begun whole waiting_long bl) ∙ waits j h;
+            waits = λ j h. ap (λ xs. queue (falling s.block s.step) (clock + s.parts) xs j) (first_part P N memory waiting begun whole waiting_long bl) ∙ passed.waits j h;
             size = both_long P N memory waiting begun whole waiting_long bl;
           };
-          long = ap length (sym leaves) ∙ ll;
-          completes = completes ∙ ap₂ ◌++◌ (ap (take n) (second-kept P N memory waiting begun whole waiting_long bl)) (ap₂ take rest leaves);
-          gathers = second-part P N memory waiting begun whole waiting_long bl n (kept_fits s) ∙ gathers ∙ ap₂ drop rest leaves;
+          long = ap length (sym passed.leaves) ∙ ll;
+          completes = completes ∙ ap₂ ◌++◌ (ap (take n) (second-kept P N memory waiting begun whole waiting_long bl)) (ap₂ take rest passed.leaves);
+          gathers = second-part P N memory waiting begun whole waiting_long bl n (kept_fits s) ∙ gathers ∙ ap₂ drop rest passed.leaves;
         }
 
 -- a fill: what is gathered counts only from the last fill on

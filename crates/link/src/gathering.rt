@@ -1,13 +1,12 @@
 // What a receiver gathers from its delay line: the first arrivals of a word wait in memory, behind the delay line, until the rest has come.
 ghost use Rattle.std.specs.Prelude.{◌≡◌, ◌+◌, ◌-◌, ◌*◌, ◌<◌, ◌≤◌, ◌++◌, length, take, drop};
-ghost use Rattle.delay.specs.Triangles.{falling};
 ghost use Rattle.runs.specs.Receivers as receivers;
 ghost use Rattle.setting.specs.Settings.{plan};
 ghost use Rattle.link.specs.Gathering.{Gathers};
 
 use crate::passing::pass_word;
 use coder::{Arrival, Misfit};
-use delay::{Lengths, Triangle};
+use delay::Lengths;
 use setting::Setting;
 
 // The arrivals of memory that a receiver takes: those of the delay line, and a word.
@@ -15,17 +14,6 @@ pub(crate) fn memory_length(setting: &Setting) -> usize
     ensures { result ≡ setting.now.memory + setting.now.sizes.word }
 {
     setting.memory + setting.sizes.word
-}
-
-// The delay line of a receiver.
-fn falling_line(setting: &Setting) -> Triangle
-    ensures { result ≡ falling setting.now.block setting.now.step }
-{
-    Triangle {
-        block: setting.block as u8,
-        step: setting.step as u8,
-        lengths: Lengths::Falling,
-    }
 }
 
 // How many arrivals of a word come from the delay line before a call that completes it.
@@ -71,9 +59,9 @@ pub(crate) fn next_word(
 {
     word.copy_from_slice(line);
     pass_word(
-        &falling_line(setting),
-        setting.parts,
-        calls * setting.parts,
+        setting,
+        Lengths::Falling,
+        calls,
         &mut memory[..setting.memory],
         word,
     )?;

@@ -1,29 +1,18 @@
 // The sender's interleaver.
 ghost use Rattle.std.specs.Prelude.{◌≡◌, ◌*◌, ◌<◌, length};
-ghost use Rattle.delay.specs.Triangles.{rising};
 ghost use Rattle.link.specs.Workers.{Clearing, Interleaved};
 ghost use Rattle.setting.specs.Settings.{plan};
 
-use crate::passing::pass_word;
+use crate::passing::{delay_line, pass_word};
 use coder::Misfit;
-use delay::{Lengths, Triangle};
+use delay::Lengths;
 use setting::Setting;
-
-fn interleaver(setting: &Setting) -> Triangle
-    ensures { result ≡ rising setting.now.block setting.now.step }
-{
-    Triangle {
-        block: setting.block as u8,
-        step: setting.step as u8,
-        lengths: Lengths::Rising,
-    }
-}
 
 // Every branch is full of zeros.
 pub(crate) fn clear(setting: &Setting, memory: &mut [u8]) -> Result<(), Misfit>
     ensures { Clearing (plan setting.now) memory.old memory.new result }
 {
-    interleaver(setting).clear(memory, 0)
+    delay_line(setting, Lengths::Rising).clear(memory, 0)
 }
 
 // A word enters that so many entered before: it stands in the line buffer, and the line octets take its place.
@@ -38,11 +27,5 @@ pub(crate) fn interleave(
     requires line_len { length line.old ≡ setting.now.sizes.word }
     ensures { Interleaved (plan setting.now) (before * setting.now.parts) memory.old memory.new line.old line.new result }
 {
-    pass_word(
-        &interleaver(setting),
-        setting.parts,
-        before * setting.parts,
-        memory,
-        line,
-    )
+    pass_word(setting, Lengths::Rising, before, memory, line)
 }
