@@ -2,11 +2,11 @@
 ghost use Rattle.std.specs.Prelude.{◌≡◌, ◌+◌, ◌<◌};
 ghost use Rattle.link.specs.Senders.{Closes, Drains};
 
+use crate::fitting::turn_taken;
 use crate::given_back::GivenBack;
 use crate::interleaving::interleave;
 use crate::refused::Refused;
 use crate::sender::Draining;
-use coder::Misfit;
 
 impl Draining {
     // The words that entered the interleaver, drained ones too.
@@ -21,15 +21,8 @@ impl Draining {
     pub fn drain(&mut self, memory: &mut [u8], line: &mut [u8]) -> Result<(), Refused>
         ensures { Drains self.old self.new memory.old memory.new line.old line.new result }
     {
-        if self.drained >= self.setting.lag {
-            return Err(Refused::OutOfTurn);
-        }
-        if line.len() != self.setting.sizes.word {
-            return Err(Refused::Unfit(Misfit::Line));
-        }
-        if memory.len() != self.setting.memory {
-            return Err(Refused::Unfit(Misfit::Memory));
-        }
+        let room = self.setting.memory;
+        turn_taken(&self.setting, self.drained, line, memory, room)?;
         line.fill(0);
         interleave(&self.setting, self.entered(), memory, line)?;
         self.drained += 1;

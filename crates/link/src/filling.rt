@@ -3,6 +3,7 @@ ghost use Rattle.std.specs.Prelude.{◌≡◌, ◌+◌, ◌<◌, length};
 ghost use Rattle.link.specs.Receivers.{Opens, Fills, Starts};
 ghost use Rattle.link.specs.Gathering.{TakesIn};
 
+use crate::fitting::{memory_fits, turn_taken};
 use crate::gathering::{memory_length, next_word};
 use crate::given_back::GivenBack;
 use crate::receiver::{Filling, Running};
@@ -17,9 +18,7 @@ impl Filling {
     pub fn open(setting: Setting, memory: &mut [Arrival]) -> Result<Filling, Refused>
         ensures { Opens setting memory.old memory.new result }
     {
-        if memory.len() != memory_length(&setting) {
-            return Err(Refused::Unfit(Misfit::Memory));
-        }
+        memory_fits(memory, memory_length(&setting))?;
         memory.fill(Arrival::Octet(0));
         Ok(Filling { setting, filled: 0 })
     }
@@ -47,15 +46,8 @@ impl Filling {
     pub fn fill(&mut self, memory: &mut [Arrival], line: &[Arrival]) -> Result<(), Refused>
         ensures { Fills self.old self.new memory.old memory.new line.now result }
     {
-        if self.filled >= self.setting.lag {
-            return Err(Refused::OutOfTurn);
-        }
-        if line.len() != self.setting.sizes.word {
-            return Err(Refused::Unfit(Misfit::Line));
-        }
-        if memory.len() != memory_length(&self.setting) {
-            return Err(Refused::Unfit(Misfit::Memory));
-        }
+        let room = memory_length(&self.setting);
+        turn_taken(&self.setting, self.filled, line, memory, room)?;
         self.take_in(memory, line)?;
         Ok(())
     }

@@ -1,12 +1,9 @@
 // A receiver after its start: each receive completes a word.
 ghost use Rattle.std.specs.Prelude.{◌≡◌, ◌+◌, ◌<◌, ◌≤◌, length};
-ghost use Rattle.runs.specs.Receivers.{receive_answer};
-ghost use Rattle.setting.specs.Settings.{plan};
 ghost use Rattle.link.specs.Reading.{Accepts, Descrambles, Frames, Takes};
 ghost use Rattle.link.specs.Receivers.{running, Receives};
-ghost use Rattle.link.specs.Refusals.{told};
 
-use crate::fitting::{frame_fits, line_fits};
+use crate::fitting::word_taken;
 use crate::gathering::{memory_length, next_word};
 use crate::loss::{Cause, Loss, Unreceived};
 use crate::reading::message_of;
@@ -14,37 +11,10 @@ use crate::receiver::Running;
 use crate::refused::Refused;
 use crate::unread::Unread;
 use coder::sizes::LONGEST_WORD;
-use coder::{Arrival, Coder, Misfit};
+use coder::{Arrival, Coder};
 use scrambler::Earlier;
 
-const MOST_WORDS: usize = 1000000;
-
 impl Running {
-    // Whether a receive is taken with this coder and what else is lent.
-    fn takes<C: Coder>(
-        &self,
-        coder: &C,
-        memory: &[Arrival],
-        line: &[Arrival],
-        frame: &[u8],
-    ) -> Result<(), Refused>
-        ensures { told result ≡ receive_answer (plan self.now.setting) (C.Coder.code coder.now) (running self.now) memory.now line.now frame.now }
-    {
-        if self.words >= MOST_WORDS {
-            return Err(Refused::PastLastWord);
-        }
-        if !frame_fits(&self.setting, coder, frame) {
-            return Err(Refused::Unfit(Misfit::Frame));
-        }
-        if !line_fits(&self.setting, coder, line) {
-            return Err(Refused::Unfit(Misfit::Line));
-        }
-        if memory.len() != memory_length(&self.setting) {
-            return Err(Refused::Unfit(Misfit::Memory));
-        }
-        Ok(())
-    }
-
     // The message of a word, descrambled. After a word that the coder lost, the next message only renews the earlier bits.
     fn descrambled<C: Coder>(
         &mut self,
@@ -127,7 +97,8 @@ impl Running {
     ) -> Result<usize, Unreceived>
         ensures { Receives (C.Coder.code coder.now) self.old self.new memory.old memory.new line.now frame.old frame.new result }
     {
-        self.takes(coder, memory, line, frame)?;
+        let room = memory_length(&self.setting);
+        word_taken(&self.setting, coder, self.words, frame, line, memory, room)?;
         let word = self.words;
         self.receive_word(coder, memory, line, frame)
             .map_err(|unread| match unread {

@@ -6,16 +6,13 @@ ghost use Rattle.runs.specs.Senders.{send_answer};
 ghost use Rattle.setting.specs.Settings.{plan};
 
 use crate::coding::encode_frame;
-use crate::fitting::{frame_fits, line_fits};
+use crate::fitting::word_taken;
 use crate::interleaving::{clear, interleave};
 use crate::refused::Refused;
 use crate::sender::{Draining, Sending};
 use coder::{Coder, Misfit};
 use scrambler::Earlier;
 use setting::Setting;
-
-// The words of a run.
-const MOST_WORDS: usize = 1000000;
 
 impl Sending {
     // Opens a sender over its memory, which is cleared.
@@ -40,18 +37,8 @@ impl Sending {
     ) -> Result<(), Refused>
         ensures { Sends (C.Coder.code coder.now) self.old self.new memory.old memory.new frame.now line.old line.new result }
     {
-        if self.words >= MOST_WORDS {
-            return Err(Refused::PastLastWord);
-        }
-        if !frame_fits(&self.setting, coder, frame) {
-            return Err(Refused::Unfit(Misfit::Frame));
-        }
-        if !line_fits(&self.setting, coder, line) {
-            return Err(Refused::Unfit(Misfit::Line));
-        }
-        if memory.len() != self.setting.memory {
-            return Err(Refused::Unfit(Misfit::Memory));
-        }
+        let room = self.setting.memory;
+        word_taken(&self.setting, coder, self.words, frame, line, memory, room)?;
         self.send_word(coder, memory, frame, line)?;
         Ok(())
     }
