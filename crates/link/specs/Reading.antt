@@ -21,12 +21,6 @@ Messages c word message (Err (Lost (Coder marks))) = NoneNear c (map value_of wo
 Messages c word message (Err (Lost Scrambler)) = ⊥
 Messages c word message (Err (Unfit misfit)) = ⊥
 
--- the message descrambled
-abbrev pub Descrambles : Code → (s s' : runs.Running) (word : List Arrival) (message : List ℕ) → Result ℕ Unread → Type 0
-Descrambles c s s' word message (Ok repaired) = Gives c s s' word (delivered repaired message)
-Descrambles c s s' word message (Err (Lost cause)) = Gives c s s' word (answer_of cause)
-Descrambles c s s' word message (Err (Unfit misfit)) = ⊥
-
 -- the frame that a word gives
 abbrev pub Frames : Code → (s s' : runs.Running) (word : List Arrival) (frame frame' : List ℕ) → Result ℕ Unread → Type 0
 Frames c s s' word frame frame' (Ok repaired) = Gives c s s' word (delivered repaired frame')

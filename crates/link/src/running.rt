@@ -15,32 +15,7 @@ use coder::{Arrival, Coder};
 use scrambler::Earlier;
 
 impl Running {
-    // The message of a word, descrambled. After a word that the coder lost, the next message only renews the earlier bits.
-    fn descrambled<C: Coder>(
-        &mut self,
-        coder: &C,
-        word: &[Arrival],
-        message: &mut [u8],
-    ) -> Result<usize, Unread>
-        requires word_len_bound { length word.now ≤ 255 }
-        requires word_len { length word.now ≡ (C.Coder.code coder.now).sizes.word }
-        requires message_len { length message.old ≡ (C.Coder.code coder.now).sizes.frame }
-        ensures gives { Descrambles (C.Coder.code coder.now) (running self.old) (running self.new) word.now message.new result }
-        ensures setting { self.new.setting ≡ self.old.setting }
-        ensures words { self.new.words ≡ self.old.words }
-    {
-        let before = self.earlier.take();
-        let repaired = message_of(coder, word, message)?;
-        let mut earlier = before.unwrap_or(Earlier::ones());
-        earlier.descramble(message);
-        self.earlier = Some(earlier);
-        if before.is_none() {
-            return Err(Unread::Lost(Cause::Scrambler));
-        }
-        Ok(repaired)
-    }
-
-    // The frame of a word.
+    // The frame of a word. After a word that the coder lost, the next message only renews the earlier bits.
     fn read_word<C: Coder>(
         &mut self,
         coder: &C,
@@ -57,7 +32,14 @@ impl Running {
     {
         let mut room = [0; LONGEST_WORD];
         let message = &mut room[..frame.len()];
-        let repaired = self.descrambled(coder, word, message)?;
+        let before = self.earlier.take();
+        let repaired = message_of(coder, word, message)?;
+        let mut earlier = before.unwrap_or(Earlier::ones());
+        earlier.descramble(message);
+        self.earlier = Some(earlier);
+        if before.is_none() {
+            return Err(Unread::Lost(Cause::Scrambler));
+        }
         frame.copy_from_slice(message);
         Ok(repaired)
     }
