@@ -1,25 +1,13 @@
 -- What the private parts of the calls ensure. Where the lengths fit nothing is refused. Assumes nothing.
-use Rattle.std.specs.Prelude.{◌≡◌, ℕ, Bool, ◌≢◌, List, length, replicate, Ok, Err, Result}
+use Rattle.std.specs.Prelude.{◌≡◌, ℕ, Bool, List, Ok, Err, Result}
 use Prim.{Unit, ⊥}
-use Rattle.places.specs.Line.{Plan}
 use Rattle.coder.specs.Codes.{Code, Octets}
 use Rattle.coder.specs.declared.misfit.Misfit.{Misfit}
-use Rattle.coder.specs.declared.misfit.Misfit.TheVariants.{Memory}
 use Rattle.scrambler.specs.Scrambler.{scrambled, after}
 use Rattle.setting.specs.Settings.{plan}
-use Rattle.runs.specs.Senders.{Interleaves, Sent}
+use Rattle.runs.specs.Senders.{Sent}
 use Rattle.link.specs.declared.sender.Sending.{Sending}
 use Rattle.link.specs.Senders.{sending}
-
--- the interleaver's memory is cleared, where it has its length
-abbrev pub Clearing : Plan → (memory memory' : List ℕ) → Result (Unit {0}) Misfit → Type 0
-Clearing p memory memory' (Ok _) = (length memory ≡ p.memory) × (memory' ≡ replicate p.memory 0)
-Clearing p memory memory' (Err misfit) = (length memory ≢ p.memory) × (misfit ≡ Memory) × (memory' ≡ memory)
-
--- a word enters the interleaver
-abbrev pub Interleaved : Plan → (clock : ℕ) (memory memory' entering line : List ℕ) → Result (Unit {0}) Misfit → Type 0
-Interleaved p clock memory memory' entering line (Ok _) = Interleaves p clock memory memory' entering line
-Interleaved p clock memory memory' entering line (Err misfit) = ⊥
 
 -- a frame is scrambled and coded
 pub record Coded (c : Code) (earlier earlier' : List Bool) (frame word : List ℕ) : Type 0 where

@@ -4,9 +4,10 @@ ghost use Rattle.link.specs.Senders.{Closes, Drains};
 
 use crate::fitting::turn_taken;
 use crate::given_back::GivenBack;
-use crate::interleaving::interleave;
+use crate::passing::pass_word;
 use crate::refused::Refused;
 use crate::sender::Draining;
+use delay::Lengths;
 
 impl Draining {
     // The words that entered the interleaver, drained ones too.
@@ -24,7 +25,7 @@ impl Draining {
         let room = self.setting.memory;
         turn_taken(&self.setting, self.drained, line, memory, room)?;
         line.fill(0);
-        interleave(&self.setting, self.entered(), memory, line)?;
+        pass_word(&self.setting, Lengths::Rising, self.entered(), memory, line)?;
         self.drained += 1;
         Ok(())
     }

@@ -7,7 +7,6 @@ pub mod filling;
 mod fitting;
 mod gathering;
 pub mod given_back;
-mod interleaving;
 pub mod limit;
 pub mod loss;
 mod passing;

@@ -1,6 +1,6 @@
 // A receiver after its start: each receive completes a word.
 ghost use Rattle.std.specs.Prelude.{◌≡◌, ◌+◌, ◌<◌, ◌≤◌, length};
-ghost use Rattle.link.specs.Reading.{Accepts, Descrambles, Frames, Takes};
+ghost use Rattle.link.specs.Reading.{Accepts, Frames, Takes};
 ghost use Rattle.link.specs.Receivers.{running, Receives};
 
 use crate::fitting::word_taken;

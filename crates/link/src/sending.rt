@@ -7,10 +7,11 @@ ghost use Rattle.setting.specs.Settings.{plan};
 
 use crate::coding::encode_frame;
 use crate::fitting::word_taken;
-use crate::interleaving::{clear, interleave};
+use crate::passing::{delay_line, pass_word};
 use crate::refused::Refused;
 use crate::sender::{Draining, Sending};
 use coder::{Coder, Misfit};
+use delay::Lengths;
 use scrambler::Earlier;
 use setting::Setting;
 
@@ -19,7 +20,7 @@ impl Sending {
     pub fn open(setting: Setting, memory: &mut [u8]) -> Result<Sending, Refused>
         ensures { Opens setting memory.old memory.new result }
     {
-        clear(&setting, memory)?;
+        delay_line(&setting, Lengths::Rising).clear(memory, 0)?;
         Ok(Sending {
             setting,
             earlier: Earlier::ones(),
@@ -54,10 +55,8 @@ impl Sending {
         requires { send_answer (plan self.old.setting) (C.Coder.code coder.now) (sending self.old) memory.old frame.now line.old ≡ Ok tt }
         ensures { SendsWord (C.Coder.code coder.now) self.old self.new memory.old memory.new frame.now line.new result }
     {
-        let mut earlier = self.earlier;
-        encode_frame(coder, &mut earlier, frame, line)?;
-        interleave(&self.setting, self.words, memory, line)?;
-        self.earlier = earlier;
+        encode_frame(coder, &mut self.earlier, frame, line)?;
+        pass_word(&self.setting, Lengths::Rising, self.words, memory, line)?;
         self.words += 1;
         Ok(())
     }
