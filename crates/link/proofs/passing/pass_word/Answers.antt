@@ -1,12 +1,8 @@
-use Rattle.std.proofs.Common.{◌≡◌, ◌+◌, ◌-◌, ◌*◌, length, take, drop, arith, rules}
+use Rattle.std.proofs.Common.{◌≡◌, ◌+◌, ◌-◌, ◌*◌, length, take, drop, arith}
 use Rattle.delay.specs.Answers.{Through}
-use Rattle.link.specs.Passing.{Passed}
-use Rattle.link.proofs.Blocks.{Underway, begin, end, inside, more}
-use Rattle.link.proofs.Interleavers.{clock_below, cut_by}
+use Rattle.link.proofs.Blocks.{begin, inside, more}
+use Rattle.link.proofs.Interleavers.{cut_by}
 use Rattle.link.proofs.passing.pass_word.Goals as goal
-
-pub overflow_mul-clock : goal.overflow_mul-clock
-overflow_mul-clock g c = let few = clock_below c.args.setting.now c.args.before c.requires.before_bound in search rules
 
 pub loop-part-init : goal.loop-part-init
 loop-part-init g c = begin c.delay_line-line.result (c.args.before * c.args.setting.now.parts) c.args.memory.now c.args.word.now
@@ -24,16 +20,3 @@ loop-part-preserved g c =
     (take t.block (drop start c.loop-part.word)) c.push.new.block
     = rw block-long at c.in_ok-push.ensures.2 in
     rw block-long (more t clock c.args.memory.now c.args.word.now c.loop-part.invariant within pushed)
-
-pub returns : goal.returns
-returns g c =
-    let s = c.args.setting.now in
-    let t = c.delay_line-line.result in
-    let all : c.loop-part.part ≡ s.parts = omega arith in
-    let clock = c.args.before * s.parts in
-    let whole : length c.args.word.now ≡ s.parts * t.block = cut_by s t c.args.lengths c.delay_line-line.ensures c.requires.word_len in
-    let underway : Underway _ t s.parts clock c.args.memory.now c.loop-part.memory c.args.word.now c.loop-part.word
-    = rw all at c.loop-part.invariant in
-    let passed : Passed _ t s.parts clock c.args.memory.now c.loop-part.memory c.args.word.now c.loop-part.word
-    = end t clock c.args.memory.now c.args.word.now underway whole c.loop-part.auto.memory in
-    rw c.delay_line-line.ensures at passed
