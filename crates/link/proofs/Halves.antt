@@ -3,23 +3,6 @@ use Rattle.std.proofs.Common.{◌≡◌, ℕ, ◌+◌, ◌-◌, ◌≤◌, List,
 use borrow.Rule.Slice.PartMut.{put_mid, post_of}
 use Rattle.std.proofs.lemmas.List.{drop_at, take_at, take-append-le, take_rest, length-append, length-drop, length-take-le}
 
--- the last n elements of a list are turned to its front, and then change places with the first n of another list
-module _ {E : Type 0} (n : ℕ) (xs others turned front back : List E) (fits : n ≤ length xs)
-    (turns : turned ≡ drop (length xs - n) xs ++ take (length xs - n) xs) (to_front : front ≡ take n others) (to_back : back ≡ take n turned) where
-  abbrev last : List E
-  last = drop (length xs - n) xs
-
-  last_long : length last ≡ n
-  last_long = length-drop (length xs - n) xs ∙ omega arith
-
-  pub exchanged : front ++ drop n turned ≡ take n others ++ take (length xs - n) xs
-  exchanged = ap₂ ◌++◌ to_front (ap (drop n) turns ∙ drop_at last (take (length xs - n) xs) n last_long)
-
-  pub exchanged_other : take n (back ++ drop n others) ≡ last
-  exchanged_other =
-      let back_is : back ≡ last = to_back ∙ ap (take n) turns ∙ take_at last (take (length xs - n) xs) n last_long in
-      take_at back (drop n others) n (ap length back_is ∙ last_long) ∙ back_is
-
 -- a list with its first P elements changed, and then the others too
 abbrev pub half : {E : Type 0} → (P : ℕ) (list front : List E) → List E
 half P list front = front ++ drop P list

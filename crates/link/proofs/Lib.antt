@@ -5,4 +5,3 @@ pub mod Counted
 pub mod Halves
 pub mod Taken
 pub mod Marks
-pub mod Read
