@@ -1,53 +1,15 @@
 -- A word of arrivals through a receiver's delay line and the word gathered behind it. Assumes nothing.
-use Rattle.std.proofs.Common.{◌≡◌, ℕ, suc, ◌+◌, ◌-◌, ◌*◌, ◌<◌, ◌≤◌, ◌⊎◌, List, [], ◌++◌, length, take, drop, sym, ap, ◌∙◌, ap₂, inl, inr, arith}
-use Rattle.std.proofs.lemmas.List.{drop_all, length-take-le}
+use Rattle.std.proofs.Common.{◌≡◌, ℕ, suc, ◌+◌, ◌-◌, ◌*◌, ◌<◌, ◌≤◌, ◌⊎◌, List, [], ◌++◌, drop, sym, ap, ◌∙◌, ap₂, inl, inr, arith}
+use Rattle.std.proofs.lemmas.List.{drop_all}
 use Rattle.std.proofs.lemmas.Bool.{cases_lt}
 use Rattle.coder.specs.declared.arrival.Arrival.{Arrival}
-use Rattle.delay.specs.Triangles.{falling, queue}
 use Rattle.places.specs.Line.{Plan}
 use Rattle.runs.specs.Receivers.{Filled, kept, gathered, delayed}
-use Rattle.setting.specs.declared.setting.Setting.{Setting}
 use Rattle.setting.specs.Settings.{plan}
 use Rattle.link.specs.declared.receiver.Filling.{Filling}
 use Rattle.link.specs.Receivers.{filling}
 use Rattle.link.specs.Gathering.{Gathered}
-use Rattle.link.specs.Passing.{Passed}
-use Rattle.link.proofs.Counted.{kept_fits, kept_none}
-use Rattle.link.proofs.Halves.{half, both, second-kept, first_part, second-part, both_long}
-
-module _ (s : Setting) (clock : ℕ) (memory line : List Arrival) (whole : length memory ≡ s.memory + s.sizes.word) where
-  abbrev P : ℕ
-  P = s.memory
-
-  abbrev N : ℕ
-  N = s.sizes.word
-
-  abbrev n : ℕ
-  n = kept (plan s) s.lag
-
-  module _ (leaving waiting : List Arrival)
-      (passed : Passed Arrival (falling s.block s.step) s.parts clock (take P memory) waiting line leaving) where
-    waiting_long : length waiting ≡ P
-    waiting_long = passed.size ∙ length-take-le P memory (omega arith)
-
-    abbrev first-changed : List Arrival
-    first-changed = half P memory waiting
-
-    pub gathered_word : (begun word : List Arrival) → length leaving ≡ N → length begun ≡ N
-        → word ≡ take n (take (length first-changed - P) (drop P first-changed)) ++ take (length leaving - n) leaving
-        → take n begun ≡ drop (length leaving - n) leaving
-        → Gathered (plan s) clock memory (both P memory waiting begun) line word
-    gathered_word begun word ll bl completes gathers =
-        let rest : length leaving - n ≡ N - n = omega arith in
-        record {
-          delays = record {
-            waits = λ j h. ap (λ xs. queue (falling s.block s.step) (clock + s.parts) xs j) (first_part P N memory waiting begun whole waiting_long bl) ∙ passed.waits j h;
-            size = both_long P N memory waiting begun whole waiting_long bl;
-          };
-          long = ap length (sym passed.leaves) ∙ ll;
-          completes = completes ∙ ap₂ ◌++◌ (ap (take n) (second-kept P N memory waiting begun whole waiting_long bl)) (ap₂ take rest passed.leaves);
-          gathers = second-part P N memory waiting begun whole waiting_long bl n (kept_fits s) ∙ gathers ∙ ap₂ drop rest passed.leaves;
-        }
+use Rattle.link.proofs.Counted.{kept_none}
 
 -- a fill: what is gathered counts only from the last fill on
 module _ (s : Filling) (memory memory' line word : List Arrival) (some : s.filled < s.setting.lag)
