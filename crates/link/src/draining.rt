@@ -10,14 +10,6 @@ use crate::sender::Draining;
 use delay::Lengths;
 
 impl Draining {
-    // The words that entered the interleaver, drained ones too.
-    fn entered(&self) -> usize
-        ensures value { result ≡ self.now.words + self.now.drained }
-        ensures bound { result < 16777216 }
-    {
-        self.words + self.drained
-    }
-
     // Writes N more octets for the line, while some still wait.
     pub fn drain(&mut self, memory: &mut [u8], line: &mut [u8]) -> Result<(), Refused>
         ensures { Drains self.old self.new memory.old memory.new line.old line.new result }
@@ -25,7 +17,8 @@ impl Draining {
         let room = self.setting.memory;
         turn_taken(&self.setting, self.drained, line, memory, room)?;
         line.fill(0);
-        pass_word(&self.setting, Lengths::Rising, self.entered(), memory, line)?;
+        let entered = self.words + self.drained;
+        pass_word(&self.setting, Lengths::Rising, entered, memory, line)?;
         self.drained += 1;
         Ok(())
     }

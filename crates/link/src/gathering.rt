@@ -34,15 +34,6 @@ fn exchange(kept: usize, gathered: &mut [Arrival], word: &mut [Arrival])
     word[..kept].swap_with_slice(&mut gathered[..kept]);
 }
 
-// What leaves the delay line completes a word and begins the next one.
-fn complete(setting: &Setting, gathered: &mut [Arrival], word: &mut [Arrival])
-    requires { (length word.old ≡ setting.now.sizes.word) × (length gathered.old ≡ length word.old) }
-    ensures completes { word.new ≡ take (receivers.kept (plan setting.now) setting.now.lag) gathered.old ++ take (length word.old - receivers.kept (plan setting.now) setting.now.lag) word.old }
-    ensures gathers { take (receivers.kept (plan setting.now) setting.now.lag) gathered.new ≡ drop (length word.old - receivers.kept (plan setting.now) setting.now.lag) word.old }
-{
-    exchange(kept(setting), gathered, word);
-}
-
 // A word of arrivals enters the delay line; a word is completed by what leaves, and the next one begun.
 pub(crate) fn next_word(
     setting: &Setting,
@@ -65,6 +56,6 @@ pub(crate) fn next_word(
         &mut memory[..setting.memory],
         word,
     )?;
-    complete(setting, &mut memory[setting.memory..], word);
+    exchange(kept(setting), &mut memory[setting.memory..], word);
     Ok(())
 }

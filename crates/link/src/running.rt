@@ -8,7 +8,6 @@ use crate::gathering::{memory_length, next_word};
 use crate::loss::{Cause, Loss, Unreceived};
 use crate::reading::message_of;
 use crate::receiver::Running;
-use crate::refused::Refused;
 use crate::unread::Unread;
 use coder::sizes::LONGEST_WORD;
 use coder::{Arrival, Coder};
@@ -85,7 +84,7 @@ impl Running {
         self.receive_word(coder, memory, line, frame)
             .map_err(|unread| match unread {
                 Unread::Lost(cause) => Unreceived::Lost(Loss { cause, word }),
-                Unread::Unfit(misfit) => Unreceived::Refused(Refused::Unfit(misfit)),
+                Unread::Unfit(misfit) => Unreceived::Refused(misfit.into()),
             })
     }
 
