@@ -1,5 +1,5 @@
 -- What the private parts of the calls ensure. Where the lengths fit nothing is refused. Assumes nothing.
-use Rattle.std.specs.Prelude.{◌≡◌, ℕ, Bool, List, Ok, Err, Result}
+use Rattle.std.specs.Prelude.{◌≡◌, ℕ, ◌≤◌, Bool, List, length, Ok, Err, Result}
 use Prim.{Unit, ⊥}
 use Rattle.coder.specs.Codes.{Code, Octets}
 use Rattle.coder.specs.declared.misfit.Misfit.{Misfit}
@@ -8,6 +8,10 @@ use Rattle.setting.specs.Settings.{plan}
 use Rattle.runs.specs.Senders.{Sent}
 use Rattle.link.specs.declared.sender.Sending.{Sending}
 use Rattle.link.specs.Senders.{sending}
+
+-- a frame and a word have the coder's lengths, and none is above 255
+abbrev pub FitsCoder : {E : Type 0} → Code → (frame : List ℕ) (word : List E) → Type 0
+FitsCoder c frame word = (length frame ≡ c.sizes.frame) × (length word ≡ c.sizes.word) × (length frame ≤ 255) × (length word ≤ 255)
 
 -- a frame is scrambled and coded
 pub record Coded (c : Code) (earlier earlier' : List Bool) (frame word : List ℕ) : Type 0 where

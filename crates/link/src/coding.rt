@@ -1,6 +1,5 @@
 // A frame becomes a word: it is scrambled, then coded.
-ghost use Rattle.std.specs.Prelude.{◌≡◌, ◌≤◌, length};
-ghost use Rattle.link.specs.Workers.{Codes};
+ghost use Rattle.link.specs.Workers.{FitsCoder, Codes};
 ghost use Rattle.scrambler.specs.States.{earlier_bits};
 
 use coder::sizes::LONGEST_WORD;
@@ -14,9 +13,7 @@ pub(crate) fn encode_frame<C: Coder>(
     frame: &[u8],
     line: &mut [u8],
 ) -> Result<(), Misfit>
-    requires frame_len_bound { length frame.now ≤ 255 }
-    requires frame_len { length frame.now ≡ (C.Coder.code coder.now).sizes.frame }
-    requires line_len { length line.old ≡ (C.Coder.code coder.now).sizes.word }
+    requires { FitsCoder (C.Coder.code coder.now) frame.now line.old }
     ensures { Codes (C.Coder.code coder.now) (earlier_bits earlier.old) (earlier_bits earlier.new) frame.now line.new result }
 {
     let mut room = [0; LONGEST_WORD];

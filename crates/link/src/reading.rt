@@ -3,6 +3,7 @@ ghost use Rattle.std.specs.Prelude.{◌≡◌, ◌≤◌, map, length, take};
 ghost use Rattle.coder.specs.Arrivals.{value_of};
 ghost use Rattle.runs.specs.Receivers.{marks_in};
 ghost use Rattle.link.specs.Reading.{Messages};
+ghost use Rattle.link.specs.Workers.{FitsCoder};
 ghost use Rattle.link.specs.declared.unread.Unread.TheVariants.{Unfit};
 
 use crate::loss::Cause;
@@ -46,9 +47,7 @@ pub(crate) fn message_of<C: Coder>(
     word: &[Arrival],
     message: &mut [u8],
 ) -> Result<usize, Unread>
-    requires word_len_bound { length word.now ≤ 255 }
-    requires word_len { length word.now ≡ (C.Coder.code coder.now).sizes.word }
-    requires message_len { length message.old ≡ (C.Coder.code coder.now).sizes.frame }
+    requires { FitsCoder (C.Coder.code coder.now) message.old word.now }
     ensures { Messages (C.Coder.code coder.now) word.now message.new result }
 {
     let octets = values(word);

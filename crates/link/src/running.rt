@@ -2,6 +2,7 @@
 ghost use Rattle.std.specs.Prelude.{◌≡◌, ◌+◌, ◌<◌, ◌≤◌, length};
 ghost use Rattle.link.specs.Reading.{Accepts, Frames, Takes};
 ghost use Rattle.link.specs.Receivers.{running, Receives};
+ghost use Rattle.link.specs.Workers.{FitsCoder};
 
 use crate::fitting::word_taken;
 use crate::gathering::{memory_length, next_word};
@@ -21,10 +22,7 @@ impl Running {
         word: &[Arrival],
         frame: &mut [u8],
     ) -> Result<usize, Unread>
-        requires word_len_bound { length word.now ≤ 255 }
-        requires word_len { length word.now ≡ (C.Coder.code coder.now).sizes.word }
-        requires frame_len { length frame.old ≡ (C.Coder.code coder.now).sizes.frame }
-        requires frame_len_bound { length frame.old ≤ 255 }
+        requires { FitsCoder (C.Coder.code coder.now) frame.old word.now }
         ensures gives { Frames (C.Coder.code coder.now) (running self.old) (running self.new) word.now frame.old frame.new result }
         ensures setting { self.new.setting ≡ self.old.setting }
         ensures words { self.new.words ≡ self.old.words }
