@@ -18,10 +18,10 @@ pub record Gathered (p : Plan) (clock : ℕ) (memory memory' line word : List Ar
   -- and the rest is gathered for the next word
   pub gathers : gathered p (kept p p.lag) memory' ≡ drop (p.word - kept p p.lag) (delayed p clock memory line)
 
--- where the lengths fit nothing is refused
-abbrev pub Gathers : Plan → (clock : ℕ) (memory memory' line word : List Arrival) → Result (Unit {0}) Misfit → Type 0
-Gathers p clock memory memory' line word (Ok _) = Gathered p clock memory memory' line word
-Gathers p clock memory memory' line word (Err misfit) = ⊥
+-- the word stands first in its room; where the lengths fit nothing is refused
+abbrev pub Gathers : Plan → (clock : ℕ) (memory memory' line : List Arrival) → Result (List Arrival) Misfit → Type 0
+Gathers p clock memory memory' line (Ok room) = Gathered p clock memory memory' line (take p.word room)
+Gathers p clock memory memory' line (Err misfit) = ⊥
 
 -- an accepted fill
 abbrev pub TakesIn : (s s' : Filling) (memory memory' line : List Arrival) → Result (Unit {0}) Misfit → Type 0

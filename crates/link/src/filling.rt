@@ -8,7 +8,6 @@ use crate::gathering::{memory_length, next_word};
 use crate::given_back::GivenBack;
 use crate::receiver::{Filling, Running};
 use crate::refused::Refused;
-use coder::sizes::LONGEST_WORD;
 use coder::{Arrival, Misfit};
 use scrambler::Earlier;
 use setting::Setting;
@@ -30,14 +29,7 @@ impl Filling {
         requires line_len { length line.now ≡ self.old.setting.sizes.word }
         ensures { TakesIn self.old self.new memory.old memory.new line.now result }
     {
-        let mut word = [Arrival::Lost; LONGEST_WORD];
-        next_word(
-            &self.setting,
-            self.filled,
-            memory,
-            line,
-            &mut word[..self.setting.sizes.word],
-        )?;
+        next_word(&self.setting, self.filled, memory, line)?;
         self.filled += 1;
         Ok(())
     }

@@ -5,6 +5,7 @@ ghost use Rattle.setting.specs.Settings.{plan};
 ghost use Rattle.link.specs.Gathering.{Gathers};
 
 use crate::passing::pass_word;
+use coder::sizes::LONGEST_WORD;
 use coder::{Arrival, Misfit};
 use delay::Lengths;
 use setting::Setting;
@@ -34,28 +35,23 @@ fn exchange(kept: usize, gathered: &mut [Arrival], word: &mut [Arrival])
     word[..kept].swap_with_slice(&mut gathered[..kept]);
 }
 
-// A word of arrivals enters the delay line; a word is completed by what leaves, and the next one begun.
+// A word of arrivals enters the delay line; a word is completed by what leaves, and the next one begun. The word comes with marks after it.
 pub(crate) fn next_word(
     setting: &Setting,
     calls: usize,
     memory: &mut [Arrival],
     line: &[Arrival],
-    word: &mut [Arrival],
-) -> Result<(), Misfit>
+) -> Result<[Arrival; LONGEST_WORD], Misfit>
     requires memory_len { length memory.old ≡ setting.now.memory + setting.now.sizes.word }
     requires line_len { length line.now ≡ setting.now.sizes.word }
-    requires word_len { length word.old ≡ setting.now.sizes.word }
     requires calls_bound { calls < 16777216 }
-    ensures { Gathers (plan setting.now) (calls * setting.now.parts) memory.old memory.new line.now word.new result }
+    ensures { Gathers (plan setting.now) (calls * setting.now.parts) memory.old memory.new line.now result }
 {
+    let mut room = [Arrival::Lost; LONGEST_WORD];
+    let word = &mut room[..line.len()];
     word.copy_from_slice(line);
-    pass_word(
-        setting,
-        Lengths::Falling,
-        calls,
-        &mut memory[..setting.memory],
-        word,
-    )?;
+    let waiting = &mut memory[..setting.memory];
+    pass_word(setting, Lengths::Falling, calls, waiting, word)?;
     exchange(kept(setting), &mut memory[setting.memory..], word);
-    Ok(())
+    Ok(room)
 }

@@ -53,17 +53,10 @@ impl Running {
         ensures takes { Takes (C.Coder.code coder.now) self.old self.new memory.old memory.new line.now frame.old frame.new result }
         ensures setting { self.new.setting ≡ self.old.setting }
     {
-        let mut room = [Arrival::Lost; LONGEST_WORD];
-        let word = &mut room[..self.setting.sizes.word];
-        next_word(
-            &self.setting,
-            self.setting.lag + self.words,
-            memory,
-            line,
-            word,
-        )?;
+        let calls = self.setting.lag + self.words;
+        let room = next_word(&self.setting, calls, memory, line)?;
         self.words += 1;
-        self.read_word(coder, word, frame)
+        self.read_word(coder, &room[..line.len()], frame)
     }
 
     // Takes the arrivals of a word's length, and hands out the frame of the word that they complete and how many of its octets were repaired.
