@@ -33,6 +33,7 @@ fn values(word: &[Arrival]) -> [u8; LONGEST_WORD]
 }
 
 // How many arrivals of a word are marked lost.
+#[tactic(auto, using(crate::proofs::Marks::marks_counted))]
 fn marks(word: &[Arrival]) -> usize
     ensures { result ≡ marks_in word.now }
 {
