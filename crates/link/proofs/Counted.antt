@@ -3,23 +3,12 @@ use Rattle.std.proofs.Common.{◌≡◌, ℕ, suc, ◌-◌, ◌*◌, ◌<◌, �
 use Rattle.setting.specs.declared.setting.Setting.{Setting}
 use Rattle.setting.specs.Settings.{plan}
 use Rattle.runs.specs.Receivers.{kept}
-use Rattle.link.proofs.Interleavers.{clock_below, entered_below}
 use Rattle.link.proofs.Settings.{settled}
 
 module _ (s : Setting) where
-  pub kept_fits : kept (plan s) s.lag ≤ s.sizes.word
-  kept_fits =
-      let few : s.lag * s.parts - s.delay ≤ s.parts = omega (arith, (settled s).lag_least) in
-      omega (arith, mul-le-mul_right s.block few, s.cut.1)
-
   -- none before the last fill
   pub kept_none : (f : ℕ) → f < s.lag → kept (plan s) f ≡ 0
   kept_none f h =
       let sooner : suc f * s.parts ≤ s.lag * s.parts = mul-le-mul_right s.parts h in
       let early : f * s.parts - s.delay ≡ 0 = omega (arith, sooner, suc-mul f s.parts, (settled s).lag_least) in
       ap (λ (n : ℕ). n * s.block) early ∙ zero-mul s.block
-
-  pub blocks_below : s.lag * s.parts < 4294967296
-  blocks_below =
-      let few : s.lag < 16777216 = omega (arith, entered_below s 0 s.lag (omega arith) (omega arith)) in
-      omega (arith, clock_below s s.lag few)

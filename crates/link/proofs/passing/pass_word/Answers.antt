@@ -1,7 +1,6 @@
 use Rattle.std.proofs.Common.{◌≡◌, ◌+◌, ◌-◌, ◌*◌, length, take, drop, arith}
 use Rattle.delay.specs.Answers.{Through}
 use Rattle.link.proofs.Blocks.{begin, inside, more}
-use Rattle.link.proofs.Interleavers.{cut_by}
 use Rattle.link.proofs.passing.pass_word.Goals as goal
 
 pub loop-part-init : goal.loop-part-init
@@ -14,7 +13,7 @@ loop-part-preserved g c =
     let start = c.loop-part.part * t.block in
     let clock = c.args.before * s.parts in
     let block-long : start + t.block - start ≡ t.block = omega arith in
-    let whole : length c.args.word.now ≡ s.parts * t.block = cut_by s t c.args.lengths c.delay_line-line.ensures c.requires.word_len in
+    let whole : length c.args.word.now ≡ s.parts * t.block = grind (arith, c.delay_line-line.ensures, c.requires.word_len, s.cut.1) in
     let within = inside t.block c.loop-part.part s.parts (length c.args.word.now) c.loop-part-test.true whole in
     let pushed : Through _ t (clock + c.loop-part.part) c.loop-part.memory c.push.new.memory
     (take t.block (drop start c.loop-part.word)) c.push.new.block
