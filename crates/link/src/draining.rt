@@ -28,10 +28,7 @@ impl Draining {
         ensures { Closes self result }
     {
         if self.drained < self.setting.lag {
-            return Err(GivenBack {
-                state: self,
-                refused: Refused::OutOfTurn,
-            });
+            return Err(GivenBack::out_of_turn(self));
         }
         Ok(())
     }

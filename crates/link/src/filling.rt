@@ -49,10 +49,7 @@ impl Filling {
         ensures { Starts self result }
     {
         if self.filled < self.setting.lag {
-            return Err(GivenBack {
-                state: self,
-                refused: Refused::OutOfTurn,
-            });
+            return Err(GivenBack::out_of_turn(self));
         }
         Ok(Running {
             setting: self.setting,

@@ -33,6 +33,7 @@ pub(crate) fn pass_word<E: Copy>(
     let line = delay_line(setting, lengths);
     let clock = before * setting.parts;
     let block = line.block as usize;
+    // Stays by index: of what is written through `chunks_exact_mut` a proof knows the length alone, so `returns` stays open.
     for part in 0..setting.parts {
         let start = part * block;
         line.push(clock + part, memory, &mut word[start..start + block])?;
