@@ -1,14 +1,12 @@
 // A receiver while it fills: what it hands to the delay line gives no word yet.
-ghost use Rattle.std.specs.Prelude.{◌≡◌, ◌+◌, ◌<◌, length};
 ghost use Rattle.link.specs.Receivers.{Opens, Fills, Starts};
-ghost use Rattle.link.specs.Gathering.{TakesIn};
 
 use crate::fitting::{memory_fits, turn_taken};
 use crate::gathering::{memory_length, next_word};
 use crate::given_back::GivenBack;
 use crate::receiver::{Filling, Running};
 use crate::refused::Refused;
-use coder::{Arrival, Misfit};
+use coder::Arrival;
 use scrambler::Earlier;
 use setting::Setting;
 
@@ -22,25 +20,15 @@ impl Filling {
         Ok(Filling { setting, filled: 0 })
     }
 
-    // The arrivals enter the delay line, and the word that leaves is let go, but for the first arrivals of the word after the last fill.
-    fn take_in(&mut self, memory: &mut [Arrival], line: &[Arrival]) -> Result<(), Misfit>
-        requires filled_lt_lag { self.old.filled < self.old.setting.lag }
-        requires memory_len { length memory.old ≡ self.old.setting.memory + self.old.setting.sizes.word }
-        requires line_len { length line.now ≡ self.old.setting.sizes.word }
-        ensures { TakesIn self.old self.new memory.old memory.new line.now result }
-    {
-        next_word(&self.setting, self.filled, memory, line)?;
-        self.filled += 1;
-        Ok(())
-    }
-
-    // Takes the arrivals of a word's length that come before the first word is complete.
+    // Takes the arrivals of a word's length that come before the first word is complete. What leaves the delay line is let
+    // go, but for the first arrivals of the word after the last fill.
     pub fn fill(&mut self, memory: &mut [Arrival], line: &[Arrival]) -> Result<(), Refused>
         ensures { Fills self.old self.new memory.old memory.new line.now result }
     {
         let room = memory_length(&self.setting);
         turn_taken(&self.setting, self.filled, line, memory, room)?;
-        self.take_in(memory, line)?;
+        next_word(&self.setting, self.filled, memory, line)?;
+        self.filled += 1;
         Ok(())
     }
 
