@@ -6,18 +6,7 @@ use coder::Misfit;
 use delay::{Lengths, Triangle};
 use setting::Setting;
 
-// The delay line of one end: rising lengths at the sender, falling ones at the receiver.
-pub(crate) fn delay_line(setting: &Setting, lengths: Lengths) -> Triangle
-    ensures { result ≡ line_of setting.now lengths }
-{
-    Triangle {
-        block: setting.block as u8,
-        step: setting.step as u8,
-        lengths,
-    }
-}
-
-// So many words passed before this one.
+// The sender's delay line has rising lengths, the receiver's falling ones. So many words passed before this one.
 pub(crate) fn pass_word<E: Copy>(
     setting: &Setting,
     lengths: Lengths,
@@ -30,13 +19,17 @@ pub(crate) fn pass_word<E: Copy>(
     requires word_len { length word.old ≡ setting.now.sizes.word }
     ensures { Passes E (line_of setting.now lengths) setting.now.parts (before * setting.now.parts) memory.old memory.new word.old word.new result }
 {
-    let line = delay_line(setting, lengths);
+    let line = Triangle {
+        block: setting.block as u8,
+        step: setting.step as u8,
+        lengths,
+    };
     let clock = before * setting.parts;
-    let block = line.block as usize;
     // Stays by index: of what is written through `chunks_exact_mut` a proof knows the length alone, so `returns` stays open.
     for part in 0..setting.parts {
-        let start = part * block;
-        line.push(clock + part, memory, &mut word[start..start + block])?;
+        let start = part * setting.block;
+        let block = &mut word[start..start + setting.block];
+        line.push(clock + part, memory, block)?;
     }
     Ok(())
 }

@@ -6,8 +6,8 @@ ghost use Rattle.runs.specs.Senders.{send_answer};
 ghost use Rattle.setting.specs.Settings.{plan};
 
 use crate::coding::encode_frame;
-use crate::fitting::word_taken;
-use crate::passing::{delay_line, pass_word};
+use crate::fitting::{memory_fits, word_taken};
+use crate::passing::pass_word;
 use crate::refused::Refused;
 use crate::sender::{Draining, Sending};
 use coder::{Coder, Misfit};
@@ -20,7 +20,8 @@ impl Sending {
     pub fn open(setting: Setting, memory: &mut [u8]) -> Result<Sending, Refused>
         ensures { Opens setting memory.old memory.new result }
     {
-        delay_line(&setting, Lengths::Rising).clear(memory, 0)?;
+        memory_fits(memory, setting.memory)?;
+        memory.fill(0);
         Ok(Sending {
             setting,
             earlier: Earlier::ones(),
