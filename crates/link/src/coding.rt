@@ -1,9 +1,9 @@
 // A frame becomes a word: it is scrambled, then coded.
-ghost use Rattle.link.specs.Workers.{FitsCoder, Codes};
+ghost use Rattle.link.specs.Workers.{Coded, FitsCoder};
 ghost use Rattle.scrambler.specs.States.{earlier_bits};
 
+use coder::Coder;
 use coder::sizes::LONGEST_WORD;
-use coder::{Coder, Misfit};
 use scrambler::Earlier;
 
 // Writes the word into the line buffer.
@@ -12,13 +12,13 @@ pub(crate) fn encode_frame<C: Coder>(
     earlier: &mut Earlier,
     frame: &[u8],
     line: &mut [u8],
-) -> Result<(), Misfit>
+)
     requires { FitsCoder (C.Coder.code coder.now) frame.now line.old }
-    ensures { Codes (C.Coder.code coder.now) (earlier_bits earlier.old) (earlier_bits earlier.new) frame.now line.new result }
+    ensures { Coded (C.Coder.code coder.now) (earlier_bits earlier.old) (earlier_bits earlier.new) frame.now line.new }
 {
     let mut room = [0; LONGEST_WORD];
     let message = &mut room[..frame.len()];
     message.copy_from_slice(frame);
     earlier.scramble(message);
-    coder.encode(message, line)
+    coder.encode(message, line).unwrap();
 }

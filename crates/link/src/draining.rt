@@ -18,7 +18,7 @@ impl Draining {
         turn_taken(&self.setting, self.drained, line, memory, room)?;
         line.fill(0);
         let entered = self.words + self.drained;
-        pass_word(&self.setting, Lengths::Rising, entered, memory, line)?;
+        pass_word(&self.setting, Lengths::Rising, entered, memory, line);
         self.drained += 1;
         Ok(())
     }

@@ -27,7 +27,7 @@ impl Filling {
     {
         let room = memory_length(&self.setting);
         turn_taken(&self.setting, self.filled, line, memory, room)?;
-        next_word(&self.setting, self.filled, memory, line)?;
+        next_word(&self.setting, self.filled, memory, line);
         self.filled += 1;
         Ok(())
     }

@@ -2,11 +2,11 @@
 ghost use Rattle.std.specs.Prelude.{◌≡◌, ◌+◌, ◌-◌, ◌*◌, ◌<◌, ◌≤◌, ◌++◌, length, take, drop};
 ghost use Rattle.runs.specs.Receivers as receivers;
 ghost use Rattle.setting.specs.Settings.{plan};
-ghost use Rattle.link.specs.Gathering.{Gathers};
+ghost use Rattle.link.specs.Gathering.{Gathered};
 
 use crate::passing::pass_word;
+use coder::Arrival;
 use coder::sizes::LONGEST_WORD;
-use coder::{Arrival, Misfit};
 use delay::Lengths;
 use setting::Setting;
 
@@ -41,17 +41,17 @@ pub(crate) fn next_word(
     calls: usize,
     memory: &mut [Arrival],
     line: &[Arrival],
-) -> Result<[Arrival; LONGEST_WORD], Misfit>
+) -> [Arrival; LONGEST_WORD]
     requires memory_len { length memory.old ≡ setting.now.memory + setting.now.sizes.word }
     requires line_len { length line.now ≡ setting.now.sizes.word }
     requires calls_bound { calls < 16777216 }
-    ensures { Gathers (plan setting.now) (calls * setting.now.parts) memory.old memory.new line.now result }
+    ensures { Gathered (plan setting.now) (calls * setting.now.parts) memory.old memory.new line.now (take setting.now.sizes.word result) }
 {
     let mut room = [Arrival::Lost; LONGEST_WORD];
     let word = &mut room[..line.len()];
     word.copy_from_slice(line);
     let waiting = &mut memory[..setting.memory];
-    pass_word(setting, Lengths::Falling, calls, waiting, word)?;
+    pass_word(setting, Lengths::Falling, calls, waiting, word);
     exchange(kept(setting), &mut memory[setting.memory..], word);
-    Ok(room)
+    room
 }

@@ -1,8 +1,7 @@
 // A word's blocks pass through a delay line, one after another, in place.
 ghost use Rattle.std.specs.Prelude.{◌≡◌, ◌*◌, ◌<◌, length};
-ghost use Rattle.link.specs.Passing.{line_of, Passes};
+ghost use Rattle.link.specs.Passing.{line_of, Passed};
 
-use coder::Misfit;
 use delay::{Lengths, Triangle};
 use setting::Setting;
 
@@ -13,11 +12,11 @@ pub(crate) fn pass_word<E: Copy>(
     before: usize,
     memory: &mut [E],
     word: &mut [E],
-) -> Result<(), Misfit>
+)
     requires before_bound { before < 16777216 }
     requires memory_len { length memory.old ≡ setting.now.memory }
     requires word_len { length word.old ≡ setting.now.sizes.word }
-    ensures { Passes E (line_of setting.now lengths) setting.now.parts (before * setting.now.parts) memory.old memory.new word.old word.new result }
+    ensures { Passed E (line_of setting.now lengths) setting.now.parts (before * setting.now.parts) memory.old memory.new word.old word.new }
 {
     let line = Triangle {
         block: setting.block as u8,
@@ -29,7 +28,6 @@ pub(crate) fn pass_word<E: Copy>(
     for part in 0..setting.parts {
         let start = part * setting.block;
         let block = &mut word[start..start + setting.block];
-        line.push(clock + part, memory, block)?;
+        line.push(clock + part, memory, block).unwrap();
     }
-    Ok(())
 }

@@ -54,7 +54,7 @@ impl Running {
         ensures setting { self.new.setting ≡ self.old.setting }
     {
         let calls = self.setting.lag + self.words;
-        let room = next_word(&self.setting, calls, memory, line)?;
+        let room = next_word(&self.setting, calls, memory, line);
         self.words += 1;
         self.read_word(coder, &room[..line.len()], frame)
     }

@@ -1,8 +1,7 @@
 // The calls of a sender while it sends.
 ghost use Rattle.std.specs.Prelude.{◌≡◌, Ok};
 ghost use Rattle.link.specs.Senders.{Ends, Opens, Sends, sending};
-ghost use Rattle.link.specs.Workers.{SendsWord};
-ghost use Rattle.runs.specs.Senders.{send_answer};
+ghost use Rattle.runs.specs.Senders.{Sent, send_answer};
 ghost use Rattle.setting.specs.Settings.{plan};
 
 use crate::coding::encode_frame;
@@ -10,7 +9,7 @@ use crate::fitting::{memory_fits, word_taken};
 use crate::passing::pass_word;
 use crate::refused::Refused;
 use crate::sender::{Draining, Sending};
-use coder::{Coder, Misfit};
+use coder::Coder;
 use delay::Lengths;
 use scrambler::Earlier;
 use setting::Setting;
@@ -41,25 +40,19 @@ impl Sending {
     {
         let room = self.setting.memory;
         word_taken(&self.setting, coder, self.words, frame, line, memory, room)?;
-        self.send_word(coder, memory, frame, line)?;
+        self.send_word(coder, memory, frame, line);
         Ok(())
     }
 
     // Where everything fits: the frame becomes a word, and the word enters the interleaver.
-    fn send_word<C: Coder>(
-        &mut self,
-        coder: &C,
-        memory: &mut [u8],
-        frame: &[u8],
-        line: &mut [u8],
-    ) -> Result<(), Misfit>
+    fn send_word<C: Coder>(&mut self, coder: &C, memory: &mut [u8], frame: &[u8], line: &mut [u8])
         requires { send_answer (plan self.old.setting) (C.Coder.code coder.now) (sending self.old) memory.old frame.now line.old ≡ Ok tt }
-        ensures { SendsWord (C.Coder.code coder.now) self.old self.new memory.old memory.new frame.now line.new result }
+        ensures setting { self.new.setting ≡ self.old.setting }
+        ensures sent { Sent (plan self.old.setting) (C.Coder.code coder.now) (sending self.old) (sending self.new) memory.old memory.new frame.now line.new }
     {
-        encode_frame(coder, &mut self.earlier, frame, line)?;
-        pass_word(&self.setting, Lengths::Rising, self.words, memory, line)?;
+        encode_frame(coder, &mut self.earlier, frame, line);
+        pass_word(&self.setting, Lengths::Rising, self.words, memory, line);
         self.words += 1;
-        Ok(())
     }
 
     // Ends the run of frames: what still waits has yet to be drained.

@@ -19,5 +19,5 @@ loop-part-preserved g c =
     let within = inside t.block c.loop-part.part s.parts (length c.args.word.now) c.loop-part-test.true (c.requires.word_len ∙ sym s.cut.1) in
     let pushed : Through _ t (clock + c.loop-part.part) c.loop-part.memory c.push.new.memory
     (take t.block (drop start c.loop-part.word)) c.push.new.block
-    = rw block-long at c.in_ok-push.ensures.2 in
+    = let answer = rw c.unwrap.ensures at c.push.ensures in rw block-long at answer.2 in
     rw block-long (more t clock c.args.memory.now c.args.word.now c.loop-part.invariant within pushed)

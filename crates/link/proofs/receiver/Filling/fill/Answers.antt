@@ -6,5 +6,5 @@ pub returns : goal.returns
 returns c = (
   search rules,
   refl,
-  filled_word c.args.self.now c.args.memory.now c.next_word.new.memory c.args.line.now _ (search rules) c.in_ok-next_word.ensures,
+  filled_word c.args.self.now c.args.memory.now c.next_word.new.memory c.args.line.now _ (search rules) c.next_word.ensures,
 )
