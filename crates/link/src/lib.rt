@@ -16,7 +16,6 @@ pub mod refused;
 pub mod running;
 pub mod sender;
 pub mod sending;
-mod unread;
 
 pub use given_back::GivenBack;
 pub use limit::burst_limit;

@@ -1,23 +1,13 @@
-// A gathered word, decoded. Each layer keeps why a word is lost and adds what it knows.
+// A gathered word, decoded.
 ghost use Rattle.std.specs.Prelude.{◌≡◌, ◌≤◌, map, length, take};
 ghost use Rattle.coder.specs.Arrivals.{value_of};
 ghost use Rattle.runs.specs.Receivers.{marks_in};
 ghost use Rattle.link.specs.Reading.{Messages};
 ghost use Rattle.link.specs.Workers.{FitsCoder};
-ghost use Rattle.link.specs.declared.unread.Unread.TheVariants.{Unfit};
 
 use crate::loss::Cause;
-use crate::unread::Unread;
 use coder::sizes::LONGEST_WORD;
-use coder::{Arrival, Coder, Misfit, Undecoded};
-
-impl From<Misfit> for Unread {
-    ghost from_gives = { λ e r. r ≡ Unfit e };
-
-    fn from(misfit: Misfit) -> Unread {
-        Unread::Unfit(misfit)
-    }
-}
+use coder::{Arrival, Coder};
 
 // The octets of a word, with zeros after them; a lost one is 00.
 fn values(word: &[Arrival]) -> [u8; LONGEST_WORD]
@@ -42,19 +32,16 @@ fn marks(word: &[Arrival]) -> usize
         .count()
 }
 
-// The message whose word is near.
+// The message whose word is near. The lengths fit, so a coder that gives none has lost the word.
 pub(crate) fn message_of<C: Coder>(
     coder: &C,
     word: &[Arrival],
     message: &mut [u8],
-) -> Result<usize, Unread>
+) -> Result<usize, Cause>
     requires { FitsCoder (C.Coder.code coder.now) message.old word.now }
     ensures { Messages (C.Coder.code coder.now) word.now message.new result }
 {
     let octets = values(word);
     let decoded = coder.decode(&octets[..word.len()], message);
-    decoded.map_err(|undecoded| match undecoded {
-        Undecoded::Lost => Unread::Lost(Cause::Coder(marks(word))),
-        Undecoded::Unfit(misfit) => Unread::Unfit(misfit),
-    })
+    decoded.map_err(|_| Cause::Coder(marks(word)))
 }

@@ -9,7 +9,6 @@ use crate::gathering::{memory_length, next_word};
 use crate::loss::{Cause, Loss, Unreceived};
 use crate::reading::message_of;
 use crate::receiver::Running;
-use crate::unread::Unread;
 use coder::sizes::LONGEST_WORD;
 use coder::{Arrival, Coder};
 use scrambler::Earlier;
@@ -21,7 +20,7 @@ impl Running {
         coder: &C,
         word: &[Arrival],
         frame: &mut [u8],
-    ) -> Result<usize, Unread>
+    ) -> Result<usize, Cause>
         requires { FitsCoder (C.Coder.code coder.now) frame.old word.now }
         ensures gives { Frames (C.Coder.code coder.now) (running self.old) (running self.new) word.now frame.old frame.new result }
         ensures setting { self.new.setting ≡ self.old.setting }
@@ -35,7 +34,7 @@ impl Running {
         earlier.descramble(message);
         self.earlier = Some(earlier);
         if before.is_none() {
-            return Err(Unread::Lost(Cause::Scrambler));
+            return Err(Cause::Scrambler);
         }
         frame.copy_from_slice(message);
         Ok(repaired)
@@ -48,7 +47,7 @@ impl Running {
         memory: &mut [Arrival],
         line: &[Arrival],
         frame: &mut [u8],
-    ) -> Result<usize, Unread>
+    ) -> Result<usize, Cause>
         requires { Accepts (C.Coder.code coder.now) self.old memory.old line.now frame.old }
         ensures takes { Takes (C.Coder.code coder.now) self.old self.new memory.old memory.new line.now frame.old frame.new result }
         ensures setting { self.new.setting ≡ self.old.setting }
@@ -73,10 +72,7 @@ impl Running {
         word_taken(&self.setting, coder, self.words, frame, line, memory, room)?;
         let word = self.words;
         self.receive_word(coder, memory, line, frame)
-            .map_err(|unread| match unread {
-                Unread::Lost(cause) => Unreceived::Lost(Loss { cause, word }),
-                Unread::Unfit(misfit) => Unreceived::Refused(misfit.into()),
-            })
+            .map_err(|cause| Unreceived::Lost(Loss { cause, word }))
     }
 
     // Ends the receiver. What waits in its memory is let go.
