@@ -41,6 +41,7 @@ impl Running {
     }
 
     // Reads the word that the arrivals complete. Lost or not, it counts.
+    // Stays with the four that `receive` is lent: a struct of them would be made there and taken apart here, and nowhere else.
     fn receive_word<C: Coder>(
         &mut self,
         coder: &C,

@@ -45,6 +45,7 @@ impl Sending {
     }
 
     // Where everything fits: the frame becomes a word, and the word enters the interleaver.
+    // Stays with the four that `send` is lent: a struct of them would be made there and taken apart here, and nowhere else.
     fn send_word<C: Coder>(&mut self, coder: &C, memory: &mut [u8], frame: &[u8], line: &mut [u8])
         requires { send_answer (plan self.old.setting) (C.Coder.code coder.now) (sending self.old) memory.old frame.now line.old ≡ Ok tt }
         ensures setting { self.new.setting ≡ self.old.setting }
