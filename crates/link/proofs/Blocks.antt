@@ -1,6 +1,6 @@
 -- A word's blocks through a delay line, block by block. Assumes nothing.
 use Rattle.std.proofs.Common.{◌≡◌, ℕ, zero, suc, ◌+◌, ◌*◌, ◌<◌, ◌≤◌, List, [], ◌∷◌, ◌++◌, length, take, drop, sym, ap, ◌∙◌, ap₂, append_assoc, append-nil, mul-le-mul_right, suc-mul, add-mul, suc-add, zero-mul, arith}
-use Rattle.std.proofs.lemmas.List.{drop_all, drop_at, drop-drop, take_at}
+use Rattle.std.proofs.lemmas.List.{drop_at, drop-drop, take_at}
 use Rattle.delay.specs.declared.triangle.Triangle.{Triangle}
 use Rattle.delay.specs.Queues.{Alike, Bank}
 use Rattle.delay.specs.Runs.{outs, rest}
@@ -9,7 +9,6 @@ use Rattle.delay.specs.Answers.{Through}
 use Rattle.delay.proofs.Runs.{blocks_outs, length-outs}
 use Rattle.runs.specs.Blocks.{cut, joined, left, through}
 use Rattle.runs.proofs.Blocks.{blocks_cut, joined-++, length_cut, length-joined}
-use Rattle.link.specs.Passing.{Passed}
 
 module _ {E : Type 0} where
   -- one block more
@@ -94,13 +93,3 @@ module _ {E : Type 0} (t : Triangle) (clock : ℕ) (memory word : List E) where
       left_now =
           ap (λ bs. joined (outs bank bs)) blocks ∙ ap joined gone.0 ∙ joined-++ (outs bank (cut I part word)) (block' ∷ [])
           ∙ ap (λ xs. before ++ xs) (unfold joined in append-nil block')
-
-  -- all blocks
-  pub end : {parts : ℕ} {memory' word' : List E} → Underway E t parts clock memory memory' word word' → length word ≡ parts * t.block
-      → length memory' ≡ length memory → Passed E t parts clock memory memory' word word'
-  end {parts} whole long size = record {
-    leaves = whole.leaves ∙ ap (λ ys. through t.block parts (queue t clock memory) word ++ ys) (drop_all (parts * t.block) word (omega (arith, long)))
-        ∙ append-nil (through t.block parts (queue t clock memory) word);
-    waits = whole.waits;
-    size = size;
-  }

@@ -1,12 +1,9 @@
--- A word of arrivals through a receiver's delay line and the word gathered behind it. Assumes nothing.
-use Rattle.std.proofs.Common.{◌≡◌, ℕ, suc, ◌+◌, ◌-◌, ◌*◌, ◌<◌, ◌≤◌, ◌⊎◌, List, [], ◌++◌, length, take, drop, sym, ap, ◌∙◌, subst, ap₂, inl, inr, arith}
-use Rattle.std.proofs.lemmas.List.{drop_all, length-take-le}
+-- A fill: a receiver has gathered nothing before its last fill. Assumes nothing.
+use Rattle.std.proofs.Common.{◌≡◌, ℕ, suc, ◌+◌, ◌-◌, ◌*◌, ◌<◌, ◌≤◌, ◌⊎◌, List, ◌++◌, drop, sym, ap, ◌∙◌, inl, inr, mul-le-mul_right, suc-mul, zero-mul, arith}
+use Rattle.std.proofs.Math.Nat.{sub-zero}
+use Rattle.std.proofs.lemmas.List.{drop_all}
 use Rattle.std.proofs.lemmas.Bool.{cases_lt}
 use Rattle.coder.specs.declared.arrival.Arrival.{Arrival}
-use Rattle.delay.specs.declared.triangle.Triangle.{Triangle}
-use Rattle.delay.specs.Queues.{Alike}
-use Rattle.delay.specs.Triangles.{falling, queue}
-use Rattle.runs.specs.Blocks.{through, left}
 use Rattle.places.specs.Line.{Plan}
 use Rattle.runs.specs.Receivers.{Filled, kept, gathered, delayed}
 use Rattle.setting.specs.declared.setting.Setting.{Setting}
@@ -14,57 +11,14 @@ use Rattle.setting.specs.Settings.{plan}
 use Rattle.link.specs.declared.receiver.Filling.{Filling}
 use Rattle.link.specs.Receivers.{filling}
 use Rattle.link.specs.Gathering.{Gathered}
-use Rattle.link.specs.Passing.{Passed}
-use Rattle.link.proofs.Counted.{kept_fits, kept_none}
-use Rattle.link.proofs.Halves.{half, both, second-kept, first_part, second-part, both_long}
+use Rattle.link.proofs.Settings.{settled}
 
-module _ (s : Setting) (clock : ℕ) (memory line : List Arrival) (whole : length memory ≡ s.memory + s.sizes.word) where
-  abbrev P : ℕ
-  P = s.memory
+kept_none : (s : Setting) (f : ℕ) → f < s.lag → kept (plan s) f ≡ 0
+kept_none s f h =
+    let sooner : suc f * s.parts ≤ s.lag * s.parts = mul-le-mul_right s.parts h in
+    let early : f * s.parts - s.delay ≡ 0 = omega (arith, sooner, suc-mul f s.parts, (settled s).lag_least) in
+    ap (λ (n : ℕ). n * s.block) early ∙ zero-mul s.block
 
-  abbrev N : ℕ
-  N = s.sizes.word
-
-  abbrev n : ℕ
-  n = kept (plan s) s.lag
-
-  module _ (t : Triangle) (entering leaving waiting : List Arrival) (te : t ≡ falling s.block s.step) (ee : entering ≡ line)
-      (passed : Passed Arrival t s.parts clock (take P memory) waiting entering leaving) where
-    leaves : leaving ≡ delayed (plan s) clock memory line
-    leaves =
-        passed.leaves ∙ ap (λ (u : Triangle). through u.block s.parts (queue u clock (take P memory)) entering) te
-        ∙ ap (through s.block s.parts (queue (falling s.block s.step) clock (take P memory))) ee
-
-    waits : Alike s.block (queue (falling s.block s.step) (clock + s.parts) waiting)
-        (left s.block s.parts (queue (falling s.block s.step) clock (take P memory)) line)
-    waits =
-        subst (λ (u : Triangle). Alike u.block (queue u (clock + s.parts) waiting) (left u.block s.parts (queue u clock (take P memory)) line)) te
-        (subst (λ (xs : List Arrival). Alike t.block (queue t (clock + s.parts) waiting) (left t.block s.parts (queue t clock (take P memory)) xs)) ee
-        passed.waits)
-
-    waiting_long : length waiting ≡ P
-    waiting_long = passed.size ∙ length-take-le P memory (omega arith)
-
-    abbrev first-changed : List Arrival
-    first-changed = half P memory waiting
-
-    pub gathered_word : (begun word : List Arrival) → length leaving ≡ N → length begun ≡ N
-        → word ≡ take n (take (length first-changed - P) (drop P first-changed)) ++ take (length leaving - n) leaving
-        → take n begun ≡ drop (length leaving - n) leaving
-        → Gathered (plan s) clock memory (both P memory waiting begun) line word
-    gathered_word begun word ll bl completes gathers =
-        let rest : length leaving - n ≡ N - n = omega arith in
-        record {
-          delays = record {
-            waits = λ j h. ap (λ xs. queue (falling s.block s.step) (clock + s.parts) xs j) (first_part P N memory waiting begun whole waiting_long bl) ∙ waits j h;
-            size = both_long P N memory waiting begun whole waiting_long bl;
-          };
-          long = ap length (sym leaves) ∙ ll;
-          completes = completes ∙ ap₂ ◌++◌ (ap (take n) (second-kept P N memory waiting begun whole waiting_long bl)) (ap₂ take rest leaves);
-          gathers = second-part P N memory waiting begun whole waiting_long bl n (kept_fits s) ∙ gathers ∙ ap₂ drop rest leaves;
-        }
-
--- a fill: what is gathered counts only from the last fill on
 module _ (s : Filling) (memory memory' line word : List Arrival) (some : s.filled < s.setting.lag)
     (taken : Gathered (plan s.setting) (s.filled * s.setting.parts) memory memory' line word) where
   abbrev p : Plan
@@ -73,29 +27,17 @@ module _ (s : Filling) (memory memory' line word : List Arrival) (some : s.fille
   abbrev f : ℕ
   f = s.filled
 
-  abbrev skipped : ℕ
-  skipped = p.word - (kept p (suc f) - kept p f)
+  abbrev leaving : List Arrival
+  leaving = delayed p (f * p.parts) memory line
 
-  none : kept p f ≡ 0
-  none = kept_none s.setting f some
-
-  before : gathered p (kept p f) memory ≡ []
-  before = ap (λ (k : ℕ). gathered p k memory) none
-
-  gathers : gathered p (kept p (suc f)) memory' ≡ gathered p (kept p f) memory ++ drop skipped (delayed p (f * p.parts) memory line)
-  gathers = go (cases_lt (suc f) p.lag)
+  gathers : gathered p (kept p (suc f)) memory' ≡ gathered p (kept p f) memory ++ drop (p.word - (kept p (suc f) - kept p f)) leaving
+  gathers = rw (kept_none s.setting f some) (go (cases_lt (suc f) p.lag))
     where
-      go : (suc f < p.lag) ⊎ (p.lag ≤ suc f)
-          → gathered p (kept p (suc f)) memory' ≡ gathered p (kept p f) memory ++ drop skipped (delayed p (f * p.parts) memory line)
-      go (inl more) =
-          let still = kept_none s.setting (suc f) more in
-          let all = drop_all skipped (delayed p (f * p.parts) memory line) (omega (arith, taken.long, still, none)) in
-          ap (λ (k : ℕ). gathered p k memory') still ∙ sym (ap₂ ◌++◌ before all)
+      go : (suc f < p.lag) ⊎ (p.lag ≤ suc f) → gathered p (kept p (suc f)) memory' ≡ drop (p.word - (kept p (suc f) - 0)) leaving
+      go (inl more) = rw (kept_none s.setting (suc f) more) (sym (drop_all (p.word - 0) leaving (omega (arith, taken.long))))
       go (inr last) =
-          let e : suc f ≡ p.lag = omega (arith, some, last) in
-          let same : p.word - kept p p.lag ≡ skipped = omega (arith, ap (kept p) e, none) in
-          ap (λ (k : ℕ). gathered p (kept p k) memory') e ∙ taken.gathers
-          ∙ ap₂ (λ (front : List Arrival) (k : ℕ). front ++ drop k (delayed p (f * p.parts) memory line)) (sym before) same
+          let all : suc f ≡ p.lag = omega (arith, some, last) in
+          rw all (rw (sub-zero (kept p p.lag)) taken.gathers)
 
   pub filled_word : Filled p (filling s) (record { filled = f + 1 }) memory memory' line
   filled_word = record { delays = taken.delays; gathers = gathers; filled = omega arith }

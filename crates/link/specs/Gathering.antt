@@ -1,13 +1,8 @@
 -- A word of arrivals into a receiver's delay line, and a word completed by what leaves. Assumes nothing.
-use Rattle.std.specs.Prelude.{◌≡◌, ℕ, ◌-◌, List, ◌++◌, length, take, drop, Ok, Err, Result}
-use Prim.{Unit, ⊥}
+use Rattle.std.specs.Prelude.{◌≡◌, ℕ, ◌-◌, List, ◌++◌, length, take, drop}
 use Rattle.coder.specs.declared.arrival.Arrival.{Arrival}
-use Rattle.coder.specs.declared.misfit.Misfit.{Misfit}
 use Rattle.places.specs.Line.{Plan}
-use Rattle.setting.specs.Settings.{plan}
-use Rattle.runs.specs.Receivers.{Delays, Filled, gathered, kept, delayed}
-use Rattle.link.specs.declared.receiver.Filling.{Filling}
-use Rattle.link.specs.Receivers.{filling}
+use Rattle.runs.specs.Receivers.{Delays, gathered, kept, delayed}
 
 pub record Gathered (p : Plan) (clock : ℕ) (memory memory' line word : List Arrival) : Type 0 where
   pub delays : Delays p clock memory memory' line
@@ -17,14 +12,3 @@ pub record Gathered (p : Plan) (clock : ℕ) (memory memory' line word : List Ar
   pub completes : word ≡ gathered p (kept p p.lag) memory ++ take (p.word - kept p p.lag) (delayed p clock memory line)
   -- and the rest is gathered for the next word
   pub gathers : gathered p (kept p p.lag) memory' ≡ drop (p.word - kept p p.lag) (delayed p clock memory line)
-
--- where the lengths fit nothing is refused
-abbrev pub Gathers : Plan → (clock : ℕ) (memory memory' line word : List Arrival) → Result (Unit {0}) Misfit → Type 0
-Gathers p clock memory memory' line word (Ok _) = Gathered p clock memory memory' line word
-Gathers p clock memory memory' line word (Err misfit) = ⊥
-
--- an accepted fill
-abbrev pub TakesIn : (s s' : Filling) (memory memory' line : List Arrival) → Result (Unit {0}) Misfit → Type 0
-TakesIn s s' memory memory' line (Ok _) =
-    (s'.setting ≡ s.setting) × Filled (plan s.setting) (filling s) (filling s') memory memory' line
-TakesIn s s' memory memory' line (Err misfit) = ⊥

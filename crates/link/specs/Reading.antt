@@ -1,63 +1,36 @@
--- What a gathered word gives, and each layer's answer with what it adds to it. Assumes nothing.
+-- What a gathered word gives, layer by layer. Assumes nothing.
 use Rattle.std.specs.Prelude.{◌≡◌, ℕ, List, map, Ok, Err, Result}
 use Prim.{⊥, tt}
 use Rattle.coder.specs.Arrivals.{value_of}
 use Rattle.coder.specs.Codes.{Code, Near, NoneNear}
 use Rattle.coder.specs.declared.arrival.Arrival.{Arrival}
-use Rattle.coder.specs.declared.undecoded.Undecoded.{Undecoded}
-use Rattle.coder.specs.declared.undecoded.Undecoded.TheVariants as undecoded
 use Rattle.setting.specs.Settings.{plan}
 use Rattle.runs.specs.Receivers.{Gives, Received, delivered, marks_in, receive_answer}
 use Rattle.runs.specs.Receivers as runs
+use Rattle.link.specs.declared.loss.Cause.{Cause}
 use Rattle.link.specs.declared.loss.Cause.TheVariants.{Coder, Scrambler}
-use Rattle.link.specs.declared.loss.Unreceived.{Unreceived}
-use Rattle.link.specs.declared.loss.Unreceived.TheVariants as unreceived
-use Rattle.link.specs.declared.refused.Refused.TheVariants as refused
 use Rattle.link.specs.declared.receiver.Running.{Running}
-use Rattle.link.specs.declared.unread.Unread.{Unread}
-use Rattle.link.specs.declared.unread.Unread.TheVariants.{Unfit, Lost}
 use Rattle.link.specs.Losses.{answer_of}
 use Rattle.link.specs.Receivers.{running}
 
--- a word layer's answer: a loss with the count of lost marks
-abbrev pub marked_with : (marks : ℕ) → Result ℕ Undecoded → Result ℕ Unread
-marked_with marks (Ok repaired) = Ok repaired
-marked_with marks (Err undecoded.Lost) = Err (Lost (Coder marks))
-marked_with marks (Err (undecoded.Unfit misfit)) = Err (Unfit misfit)
-
--- a receive's answer: a loss with its word's number
-abbrev pub at_word : (word : ℕ) → Result ℕ Unread → Result ℕ Unreceived
-at_word word (Ok repaired) = Ok repaired
-at_word word (Err (Lost cause)) = Err (unreceived.Lost (record { cause = cause; word = word }))
-at_word word (Err (Unfit misfit)) = Err (unreceived.Refused (refused.Unfit misfit))
-
 -- the message that a word gives
-abbrev pub Messages : Code → (word : List Arrival) (message : List ℕ) → Result ℕ Unread → Type 0
+abbrev pub Messages : Code → (word : List Arrival) (message : List ℕ) → Result ℕ Cause → Type 0
 Messages c word message (Ok repaired) = Near c (map value_of word) message repaired
-Messages c word message (Err (Lost (Coder marks))) = NoneNear c (map value_of word) × (marks ≡ marks_in word)
-Messages c word message (Err (Lost Scrambler)) = ⊥
-Messages c word message (Err (Unfit misfit)) = ⊥
-
--- the message descrambled
-abbrev pub Descrambles : Code → (s s' : runs.Running) (word : List Arrival) (message : List ℕ) → Result ℕ Unread → Type 0
-Descrambles c s s' word message (Ok repaired) = Gives c s s' word (delivered repaired message)
-Descrambles c s s' word message (Err (Lost cause)) = Gives c s s' word (answer_of cause)
-Descrambles c s s' word message (Err (Unfit misfit)) = ⊥
+Messages c word message (Err (Coder marks)) = NoneNear c (map value_of word) × (marks ≡ marks_in word)
+Messages c word message (Err Scrambler) = ⊥
 
 -- the frame that a word gives
-abbrev pub Frames : Code → (s s' : runs.Running) (word : List Arrival) (frame frame' : List ℕ) → Result ℕ Unread → Type 0
+abbrev pub Frames : Code → (s s' : runs.Running) (word : List Arrival) (frame frame' : List ℕ) → Result ℕ Cause → Type 0
 Frames c s s' word frame frame' (Ok repaired) = Gives c s s' word (delivered repaired frame')
-Frames c s s' word frame frame' (Err (Lost cause)) = Gives c s s' word (answer_of cause) × (frame' ≡ frame)
-Frames c s s' word frame frame' (Err (Unfit misfit)) = ⊥
+Frames c s s' word frame frame' (Err cause) = Gives c s s' word (answer_of cause) × (frame' ≡ frame)
 
 -- a receive that is not refused
 abbrev pub Accepts : Code → Running → (memory line : List Arrival) (frame : List ℕ) → Type 0
 Accepts c s memory line frame = receive_answer (plan s.setting) c (running s) memory line frame ≡ Ok tt
 
 -- and what it leaves
-abbrev pub Takes : Code → (s s' : Running) (memory memory' line : List Arrival) (frame frame' : List ℕ) → Result ℕ Unread → Type 0
+abbrev pub Takes : Code → (s s' : Running) (memory memory' line : List Arrival) (frame frame' : List ℕ) → Result ℕ Cause → Type 0
 Takes c s s' memory memory' line frame frame' (Ok repaired) =
     Received (plan s.setting) c (running s) (running s') memory memory' line (delivered repaired frame')
-Takes c s s' memory memory' line frame frame' (Err (Lost cause)) =
+Takes c s s' memory memory' line frame frame' (Err cause) =
     Received (plan s.setting) c (running s) (running s') memory memory' line (answer_of cause) × (frame' ≡ frame)
-Takes c s s' memory memory' line frame frame' (Err (Unfit misfit)) = ⊥

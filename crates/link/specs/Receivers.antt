@@ -1,11 +1,13 @@
 -- What the calls of a receiver answer, over its states in the code. Assumes nothing.
-use Rattle.std.specs.Prelude.{◌≡◌, ℕ, ◌+◌, List, replicate, Ok, Err, Result}
+use Rattle.std.specs.Prelude.{◌≡◌, ℕ, ◌+◌, Bool, true, false, List, replicate, Some, None, Option, Ok, Err, Result}
 use Prim.{Unit, tt}
 use Rattle.coder.specs.Codes.{Code}
 use Rattle.coder.specs.declared.arrival.Arrival.{Arrival}
 use Rattle.coder.specs.declared.arrival.Arrival.TheVariants.{Octet}
 use Rattle.setting.specs.declared.setting.Setting.{Setting}
 use Rattle.setting.specs.Settings.{plan}
+use Rattle.scrambler.specs.declared.earlier.Earlier.{Earlier}
+use Rattle.scrambler.specs.Scrambler.{opening}
 use Rattle.scrambler.specs.States.{earlier_bits}
 use Rattle.runs.specs.Receivers as runs
 use Rattle.link.specs.declared.refused.Refused.{Refused}
@@ -21,8 +23,17 @@ use Rattle.link.specs.Losses.{answer_of}
 abbrev pub filling : Filling → runs.Filling
 filling s = record { filled = s.filled }
 
+-- no earlier bits: the coder lost the last word, and the bits are taken for ones
+abbrev pub known_bits : Option Earlier → List Bool
+known_bits (Some earlier) = earlier_bits earlier
+known_bits None = opening
+
+abbrev pub lost_last : Option Earlier → Bool
+lost_last (Some earlier) = false
+lost_last None = true
+
 abbrev pub running : Running → runs.Running
-running s = record { earlier = earlier_bits s.earlier; words = s.words; broken = s.broken }
+running s = record { earlier = known_bits s.earlier; words = s.words; broken = lost_last s.earlier }
 
 -- open
 abbrev pub Opens : Setting → (memory memory' : List Arrival) → Result Filling Refused → Type 0

@@ -2,36 +2,23 @@
 ghost use Rattle.std.specs.Prelude.{◌≡◌, ◌+◌, ◌<◌};
 ghost use Rattle.link.specs.Senders.{Closes, Drains};
 
+use crate::fitting::turn_taken;
 use crate::given_back::GivenBack;
-use crate::interleaving::interleave;
+use crate::passing::pass_word;
 use crate::refused::Refused;
 use crate::sender::Draining;
-use coder::Misfit;
+use delay::Lengths;
 
 impl Draining {
-    // The words that entered the interleaver, drained ones too.
-    fn entered(&self) -> usize
-        ensures value { result ≡ self.now.words + self.now.drained }
-        ensures bound { result < 16777216 }
-    {
-        self.words + self.drained
-    }
-
     // Writes N more octets for the line, while some still wait.
     pub fn drain(&mut self, memory: &mut [u8], line: &mut [u8]) -> Result<(), Refused>
         ensures { Drains self.old self.new memory.old memory.new line.old line.new result }
     {
-        if self.drained >= self.setting.lag {
-            return Err(Refused::OutOfTurn);
-        }
-        if line.len() != self.setting.sizes.word {
-            return Err(Refused::Unfit(Misfit::Line));
-        }
-        if memory.len() != self.setting.memory {
-            return Err(Refused::Unfit(Misfit::Memory));
-        }
+        let room = self.setting.memory;
+        turn_taken(&self.setting, self.drained, line, memory, room)?;
         line.fill(0);
-        interleave(&self.setting, self.entered(), memory, line)?;
+        let entered = self.words + self.drained;
+        pass_word(&self.setting, Lengths::Rising, entered, memory, line);
         self.drained += 1;
         Ok(())
     }
@@ -41,10 +28,7 @@ impl Draining {
         ensures { Closes self result }
     {
         if self.drained < self.setting.lag {
-            return Err(GivenBack {
-                state: self,
-                refused: Refused::OutOfTurn,
-            });
+            return Err(GivenBack::out_of_turn(self));
         }
         Ok(())
     }

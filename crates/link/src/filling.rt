@@ -1,14 +1,12 @@
 // A receiver while it fills: what it hands to the delay line gives no word yet.
-ghost use Rattle.std.specs.Prelude.{◌≡◌, ◌+◌, ◌<◌, length};
 ghost use Rattle.link.specs.Receivers.{Opens, Fills, Starts};
-ghost use Rattle.link.specs.Gathering.{TakesIn};
 
+use crate::fitting::{memory_fits, turn_taken};
 use crate::gathering::{memory_length, next_word};
 use crate::given_back::GivenBack;
 use crate::receiver::{Filling, Running};
 use crate::refused::Refused;
-use coder::sizes::LONGEST_WORD;
-use coder::{Arrival, Misfit};
+use coder::Arrival;
 use scrambler::Earlier;
 use setting::Setting;
 
@@ -17,46 +15,20 @@ impl Filling {
     pub fn open(setting: Setting, memory: &mut [Arrival]) -> Result<Filling, Refused>
         ensures { Opens setting memory.old memory.new result }
     {
-        if memory.len() != memory_length(&setting) {
-            return Err(Refused::Unfit(Misfit::Memory));
-        }
+        memory_fits(memory, memory_length(&setting))?;
         memory.fill(Arrival::Octet(0));
         Ok(Filling { setting, filled: 0 })
     }
 
-    // The arrivals enter the delay line, and the word that leaves is let go, but for the first arrivals of the word after the last fill.
-    fn take_in(&mut self, memory: &mut [Arrival], line: &[Arrival]) -> Result<(), Misfit>
-        requires filled_lt_lag { self.old.filled < self.old.setting.lag }
-        requires memory_len { length memory.old ≡ self.old.setting.memory + self.old.setting.sizes.word }
-        requires line_len { length line.now ≡ self.old.setting.sizes.word }
-        ensures { TakesIn self.old self.new memory.old memory.new line.now result }
-    {
-        let mut word = [Arrival::Lost; LONGEST_WORD];
-        next_word(
-            &self.setting,
-            self.filled,
-            memory,
-            line,
-            &mut word[..self.setting.sizes.word],
-        )?;
-        self.filled += 1;
-        Ok(())
-    }
-
-    // Takes the arrivals of a word's length that come before the first word is complete.
+    // Takes the arrivals of a word's length that come before the first word is complete. What leaves the delay line is let
+    // go, but for the first arrivals of the word after the last fill.
     pub fn fill(&mut self, memory: &mut [Arrival], line: &[Arrival]) -> Result<(), Refused>
         ensures { Fills self.old self.new memory.old memory.new line.now result }
     {
-        if self.filled >= self.setting.lag {
-            return Err(Refused::OutOfTurn);
-        }
-        if line.len() != self.setting.sizes.word {
-            return Err(Refused::Unfit(Misfit::Line));
-        }
-        if memory.len() != memory_length(&self.setting) {
-            return Err(Refused::Unfit(Misfit::Memory));
-        }
-        self.take_in(memory, line)?;
+        let room = memory_length(&self.setting);
+        turn_taken(&self.setting, self.filled, line, memory, room)?;
+        next_word(&self.setting, self.filled, memory, line);
+        self.filled += 1;
         Ok(())
     }
 
@@ -65,16 +37,12 @@ impl Filling {
         ensures { Starts self result }
     {
         if self.filled < self.setting.lag {
-            return Err(GivenBack {
-                state: self,
-                refused: Refused::OutOfTurn,
-            });
+            return Err(GivenBack::out_of_turn(self));
         }
         Ok(Running {
             setting: self.setting,
-            earlier: Earlier::ones(),
+            earlier: Some(Earlier::ones()),
             words: 0,
-            broken: false,
         })
     }
 }

@@ -1,13 +1,13 @@
 // What a receiver gathers from its delay line: the first arrivals of a word wait in memory, behind the delay line, until the rest has come.
 ghost use Rattle.std.specs.Prelude.{◌≡◌, ◌+◌, ◌-◌, ◌*◌, ◌<◌, ◌≤◌, ◌++◌, length, take, drop};
-ghost use Rattle.delay.specs.Triangles.{falling};
 ghost use Rattle.runs.specs.Receivers as receivers;
 ghost use Rattle.setting.specs.Settings.{plan};
-ghost use Rattle.link.specs.Gathering.{Gathers};
+ghost use Rattle.link.specs.Gathering.{Gathered};
 
 use crate::passing::pass_word;
-use coder::{Arrival, Misfit};
-use delay::{Lengths, Triangle};
+use coder::Arrival;
+use coder::sizes::LONGEST_WORD;
+use delay::Lengths;
 use setting::Setting;
 
 // The arrivals of memory that a receiver takes: those of the delay line, and a word.
@@ -15,17 +15,6 @@ pub(crate) fn memory_length(setting: &Setting) -> usize
     ensures { result ≡ setting.now.memory + setting.now.sizes.word }
 {
     setting.memory + setting.sizes.word
-}
-
-// The delay line of a receiver.
-fn falling_line(setting: &Setting) -> Triangle
-    ensures { result ≡ falling setting.now.block setting.now.step }
-{
-    Triangle {
-        block: setting.block as u8,
-        step: setting.step as u8,
-        lengths: Lengths::Falling,
-    }
 }
 
 // How many arrivals of a word come from the delay line before a call that completes it.
@@ -46,37 +35,23 @@ fn exchange(kept: usize, gathered: &mut [Arrival], word: &mut [Arrival])
     word[..kept].swap_with_slice(&mut gathered[..kept]);
 }
 
-// What leaves the delay line completes a word and begins the next one.
-fn complete(setting: &Setting, gathered: &mut [Arrival], word: &mut [Arrival])
-    requires { (length word.old ≡ setting.now.sizes.word) × (length gathered.old ≡ length word.old) }
-    ensures completes { word.new ≡ take (receivers.kept (plan setting.now) setting.now.lag) gathered.old ++ take (length word.old - receivers.kept (plan setting.now) setting.now.lag) word.old }
-    ensures gathers { take (receivers.kept (plan setting.now) setting.now.lag) gathered.new ≡ drop (length word.old - receivers.kept (plan setting.now) setting.now.lag) word.old }
-{
-    exchange(kept(setting), gathered, word);
-}
-
-// A word of arrivals enters the delay line; a word is completed by what leaves, and the next one begun.
+// A word of arrivals enters the delay line; a word is completed by what leaves, and the next one begun. The word comes with marks after it.
 pub(crate) fn next_word(
     setting: &Setting,
     calls: usize,
     memory: &mut [Arrival],
     line: &[Arrival],
-    word: &mut [Arrival],
-) -> Result<(), Misfit>
+) -> [Arrival; LONGEST_WORD]
     requires memory_len { length memory.old ≡ setting.now.memory + setting.now.sizes.word }
     requires line_len { length line.now ≡ setting.now.sizes.word }
-    requires word_len { length word.old ≡ setting.now.sizes.word }
     requires calls_bound { calls < 16777216 }
-    ensures { Gathers (plan setting.now) (calls * setting.now.parts) memory.old memory.new line.now word.new result }
+    ensures { Gathered (plan setting.now) (calls * setting.now.parts) memory.old memory.new line.now (take setting.now.sizes.word result) }
 {
+    let mut room = [Arrival::Lost; LONGEST_WORD];
+    let word = &mut room[..line.len()];
     word.copy_from_slice(line);
-    pass_word(
-        &falling_line(setting),
-        setting.parts,
-        calls * setting.parts,
-        &mut memory[..setting.memory],
-        word,
-    )?;
-    complete(setting, &mut memory[setting.memory..], word);
-    Ok(())
+    let waiting = &mut memory[..setting.memory];
+    pass_word(setting, Lengths::Falling, calls, waiting, word);
+    exchange(kept(setting), &mut memory[setting.memory..], word);
+    room
 }

@@ -7,7 +7,6 @@ pub mod filling;
 mod fitting;
 mod gathering;
 pub mod given_back;
-mod interleaving;
 pub mod limit;
 pub mod loss;
 mod passing;
@@ -17,7 +16,6 @@ pub mod refused;
 pub mod running;
 pub mod sender;
 pub mod sending;
-mod unread;
 
 pub use given_back::GivenBack;
 pub use limit::burst_limit;

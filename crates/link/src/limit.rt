@@ -4,6 +4,7 @@ ghost use Rattle.runs.specs.Theorem.{RidesOut};
 ghost use Rattle.setting.specs.Settings.{plan};
 ghost use Rattle.link.specs.Limits.{Limits};
 
+use crate::fitting::{frames_fit, words_fit};
 use coder::{Coder, Misfit};
 use setting::Setting;
 
@@ -11,11 +12,10 @@ use setting::Setting;
 pub fn burst_limit<C: Coder>(setting: &Setting, coder: &C) -> Result<usize, Misfit>
     ensures { Limits (plan setting.now) (C.Coder.code coder.now) result }
 {
-    let sizes = coder.sizes();
-    if sizes.frame != setting.sizes.frame || sizes.repairs != setting.sizes.repairs {
+    if !frames_fit(setting, coder) {
         return Err(Misfit::Frame);
     }
-    if sizes.word != setting.sizes.word {
+    if !words_fit(setting, coder) {
         return Err(Misfit::Line);
     }
     Ok(limit_of_pair(setting, coder))

@@ -16,11 +16,9 @@ pub struct Filling {
 #[derive(Drop)]
 pub struct Running {
     pub(crate) setting: Setting,
-    // the scrambler's earlier bits
-    pub(crate) earlier: Earlier,
+    // the scrambler's earlier bits; none where the coder lost the last word
+    pub(crate) earlier: Option<Earlier>,
     // the words received, lost ones too
     pub(crate) words: usize,
-    // whether the coder lost the last word
-    pub(crate) broken: bool,
     ghost count: { words ≤ 1000000 },
 }

@@ -1,123 +1,62 @@
 // A receiver after its start: each receive completes a word.
 ghost use Rattle.std.specs.Prelude.{◌≡◌, ◌+◌, ◌<◌, ◌≤◌, length};
-ghost use Rattle.runs.specs.Receivers.{receive_answer};
-ghost use Rattle.setting.specs.Settings.{plan};
-ghost use Rattle.link.specs.Reading.{Accepts, Descrambles, Frames, Takes};
+ghost use Rattle.link.specs.Reading.{Accepts, Frames, Takes};
 ghost use Rattle.link.specs.Receivers.{running, Receives};
-ghost use Rattle.link.specs.Refusals.{told};
+ghost use Rattle.link.specs.Workers.{FitsCoder};
 
-use crate::fitting::{frame_fits, line_fits};
+use crate::fitting::word_taken;
 use crate::gathering::{memory_length, next_word};
-use crate::loss::{Cause, Unreceived};
-use crate::reading::{at_word, message_of};
+use crate::loss::{Cause, Loss, Unreceived};
+use crate::reading::message_of;
 use crate::receiver::Running;
-use crate::refused::Refused;
-use crate::unread::Unread;
 use coder::sizes::LONGEST_WORD;
-use coder::{Arrival, Coder, Misfit};
+use coder::{Arrival, Coder};
 use scrambler::Earlier;
 
-const MOST_WORDS: usize = 1000000;
-
 impl Running {
-    // Whether a receive is taken with this coder and what else is lent.
-    fn takes<C: Coder>(
-        &self,
-        coder: &C,
-        memory: &[Arrival],
-        line: &[Arrival],
-        frame: &[u8],
-    ) -> Result<(), Refused>
-        ensures { told result ≡ receive_answer (plan self.now.setting) (C.Coder.code coder.now) (running self.now) memory.now line.now frame.now }
-    {
-        if self.words >= MOST_WORDS {
-            return Err(Refused::PastLastWord);
-        }
-        if !frame_fits(&self.setting, coder, frame) {
-            return Err(Refused::Unfit(Misfit::Frame));
-        }
-        if !line_fits(&self.setting, coder, line) {
-            return Err(Refused::Unfit(Misfit::Line));
-        }
-        if memory.len() != memory_length(&self.setting) {
-            return Err(Refused::Unfit(Misfit::Memory));
-        }
-        Ok(())
-    }
-
-    // The message of a word, descrambled. After a word that the coder lost, the next message only renews the earlier bits.
-    fn descrambled<C: Coder>(
-        &mut self,
-        coder: &C,
-        word: &[Arrival],
-        message: &mut [u8],
-    ) -> Result<usize, Unread>
-        requires word_len_bound { length word.now ≤ 255 }
-        requires word_len { length word.now ≡ (C.Coder.code coder.now).sizes.word }
-        requires message_len { length message.old ≡ (C.Coder.code coder.now).sizes.frame }
-        ensures gives { Descrambles (C.Coder.code coder.now) (running self.old) (running self.new) word.now message.new result }
-        ensures setting { self.new.setting ≡ self.old.setting }
-        ensures words { self.new.words ≡ self.old.words }
-    {
-        let broken = self.broken;
-        let mut earlier = self.earlier;
-        self.broken = true;
-        self.earlier = Earlier::ones();
-        let repaired = message_of(coder, word, message)?;
-        earlier.descramble(message);
-        self.broken = false;
-        self.earlier = earlier;
-        if broken {
-            return Err(Unread::Lost(Cause::Scrambler));
-        }
-        Ok(repaired)
-    }
-
-    // The frame of a word.
+    // The frame of a word. After a word that the coder lost, the next message only renews the earlier bits.
     fn read_word<C: Coder>(
         &mut self,
         coder: &C,
         word: &[Arrival],
         frame: &mut [u8],
-    ) -> Result<usize, Unread>
-        requires word_len_bound { length word.now ≤ 255 }
-        requires word_len { length word.now ≡ (C.Coder.code coder.now).sizes.word }
-        requires frame_len { length frame.old ≡ (C.Coder.code coder.now).sizes.frame }
-        requires frame_len_bound { length frame.old ≤ 255 }
+    ) -> Result<usize, Cause>
+        requires { FitsCoder (C.Coder.code coder.now) frame.old word.now }
         ensures gives { Frames (C.Coder.code coder.now) (running self.old) (running self.new) word.now frame.old frame.new result }
         ensures setting { self.new.setting ≡ self.old.setting }
         ensures words { self.new.words ≡ self.old.words }
     {
         let mut room = [0; LONGEST_WORD];
         let message = &mut room[..frame.len()];
-        let repaired = self.descrambled(coder, word, message)?;
+        let before = self.earlier.take();
+        let repaired = message_of(coder, word, message)?;
+        let mut earlier = before.unwrap_or(Earlier::ones());
+        earlier.descramble(message);
+        self.earlier = Some(earlier);
+        if before.is_none() {
+            return Err(Cause::Scrambler);
+        }
         frame.copy_from_slice(message);
         Ok(repaired)
     }
 
     // Reads the word that the arrivals complete. Lost or not, it counts.
+    // Stays with the four that `receive` is lent: a struct of them would be made there and taken apart here, and nowhere else.
     fn receive_word<C: Coder>(
         &mut self,
         coder: &C,
         memory: &mut [Arrival],
         line: &[Arrival],
         frame: &mut [u8],
-    ) -> Result<usize, Unread>
+    ) -> Result<usize, Cause>
         requires { Accepts (C.Coder.code coder.now) self.old memory.old line.now frame.old }
         ensures takes { Takes (C.Coder.code coder.now) self.old self.new memory.old memory.new line.now frame.old frame.new result }
         ensures setting { self.new.setting ≡ self.old.setting }
     {
-        let mut room = [Arrival::Lost; LONGEST_WORD];
-        let word = &mut room[..self.setting.sizes.word];
-        next_word(
-            &self.setting,
-            self.setting.lag + self.words,
-            memory,
-            line,
-            word,
-        )?;
+        let calls = self.setting.lag + self.words;
+        let room = next_word(&self.setting, calls, memory, line);
         self.words += 1;
-        self.read_word(coder, word, frame)
+        self.read_word(coder, &room[..line.len()], frame)
     }
 
     // Takes the arrivals of a word's length, and hands out the frame of the word that they complete and how many of its octets were repaired.
@@ -130,9 +69,11 @@ impl Running {
     ) -> Result<usize, Unreceived>
         ensures { Receives (C.Coder.code coder.now) self.old self.new memory.old memory.new line.now frame.old frame.new result }
     {
-        self.takes(coder, memory, line, frame)?;
+        let room = memory_length(&self.setting);
+        word_taken(&self.setting, coder, self.words, frame, line, memory, room)?;
         let word = self.words;
-        at_word(self.receive_word(coder, memory, line, frame), word)
+        self.receive_word(coder, memory, line, frame)
+            .map_err(|cause| Unreceived::Lost(Loss { cause, word }))
     }
 
     // Ends the receiver. What waits in its memory is let go.

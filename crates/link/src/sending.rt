@@ -1,28 +1,26 @@
 // The calls of a sender while it sends.
 ghost use Rattle.std.specs.Prelude.{◌≡◌, Ok};
 ghost use Rattle.link.specs.Senders.{Ends, Opens, Sends, sending};
-ghost use Rattle.link.specs.Workers.{SendsWord};
-ghost use Rattle.runs.specs.Senders.{send_answer};
+ghost use Rattle.runs.specs.Senders.{Sent, send_answer};
 ghost use Rattle.setting.specs.Settings.{plan};
 
 use crate::coding::encode_frame;
-use crate::fitting::{frame_fits, line_fits};
-use crate::interleaving::{clear, interleave};
+use crate::fitting::{memory_fits, word_taken};
+use crate::passing::pass_word;
 use crate::refused::Refused;
 use crate::sender::{Draining, Sending};
-use coder::{Coder, Misfit};
+use coder::Coder;
+use delay::Lengths;
 use scrambler::Earlier;
 use setting::Setting;
-
-// The words of a run.
-const MOST_WORDS: usize = 1000000;
 
 impl Sending {
     // Opens a sender over its memory, which is cleared.
     pub fn open(setting: Setting, memory: &mut [u8]) -> Result<Sending, Refused>
         ensures { Opens setting memory.old memory.new result }
     {
-        clear(&setting, memory)?;
+        memory_fits(memory, setting.memory)?;
+        memory.fill(0);
         Ok(Sending {
             setting,
             earlier: Earlier::ones(),
@@ -40,39 +38,22 @@ impl Sending {
     ) -> Result<(), Refused>
         ensures { Sends (C.Coder.code coder.now) self.old self.new memory.old memory.new frame.now line.old line.new result }
     {
-        if self.words >= MOST_WORDS {
-            return Err(Refused::PastLastWord);
-        }
-        if !frame_fits(&self.setting, coder, frame) {
-            return Err(Refused::Unfit(Misfit::Frame));
-        }
-        if !line_fits(&self.setting, coder, line) {
-            return Err(Refused::Unfit(Misfit::Line));
-        }
-        if memory.len() != self.setting.memory {
-            return Err(Refused::Unfit(Misfit::Memory));
-        }
-        self.send_word(coder, memory, frame, line)?;
+        let room = self.setting.memory;
+        word_taken(&self.setting, coder, self.words, frame, line, memory, room)?;
+        self.send_word(coder, memory, frame, line);
         Ok(())
     }
 
     // Where everything fits: the frame becomes a word, and the word enters the interleaver.
-    fn send_word<C: Coder>(
-        &mut self,
-        coder: &C,
-        memory: &mut [u8],
-        frame: &[u8],
-        line: &mut [u8],
-    ) -> Result<(), Misfit>
+    // Stays with the four that `send` is lent: a struct of them would be made there and taken apart here, and nowhere else.
+    fn send_word<C: Coder>(&mut self, coder: &C, memory: &mut [u8], frame: &[u8], line: &mut [u8])
         requires { send_answer (plan self.old.setting) (C.Coder.code coder.now) (sending self.old) memory.old frame.now line.old ≡ Ok tt }
-        ensures { SendsWord (C.Coder.code coder.now) self.old self.new memory.old memory.new frame.now line.new result }
+        ensures setting { self.new.setting ≡ self.old.setting }
+        ensures sent { Sent (plan self.old.setting) (C.Coder.code coder.now) (sending self.old) (sending self.new) memory.old memory.new frame.now line.new }
     {
-        let mut earlier = self.earlier;
-        encode_frame(coder, &mut earlier, frame, line)?;
-        interleave(&self.setting, self.words, memory, line)?;
-        self.earlier = earlier;
+        encode_frame(coder, &mut self.earlier, frame, line);
+        pass_word(&self.setting, Lengths::Rising, self.words, memory, line);
         self.words += 1;
-        Ok(())
     }
 
     // Ends the run of frames: what still waits has yet to be drained.

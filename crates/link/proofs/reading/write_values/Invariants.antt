@@ -1,6 +1,0 @@
-use Rattle.std.proofs.Common.{◌≡◌, map, take}
-use Rattle.coder.specs.Arrivals.{value_of}
-use Rattle.link.proofs.reading.write_values.Given as goal
-
-abbrev pub invariant-loop-place : goal.invariant-loop-place
-invariant-loop-place l = take l.place l.octets ≡ map value_of (take l.place l.word)
