@@ -16,3 +16,4 @@ pub mod OneMore
 pub mod Repairs
 pub mod Packing
 pub mod RowRegisters
+pub mod WeighedSums

@@ -18,6 +18,7 @@ pub mod shifting;
 mod syndromes;
 pub mod table;
 mod values;
+mod weighing;
 
 pub use reed_solomon::ReedSolomon;
 pub use rows::row_coder::RowCoder;

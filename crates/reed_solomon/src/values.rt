@@ -1,10 +1,11 @@
 // The value of an error at each of some places, from the syndromes.
 ghost use Rattle.std.specs.Prelude.{◌≡◌, ℕ, ◌+◌, ◌<◌, ◌≤◌, length, take, slice_index};
-ghost use Rattle.rs_algebra.specs.Polynomials.{Elements, times_root, weighed};
+ghost use Rattle.rs_algebra.specs.Polynomials.{Elements, times_root};
 ghost use Rattle.rs_algebra.specs.Words.{Missing, Places, ValueFor};
 ghost use Rattle.reed_solomon.specs.Repairs.{Valued};
 
 use crate::places::low_value;
+use crate::weighing::weighed_sum;
 use field::Field;
 
 const MOST_PLACES: usize = 16;
@@ -83,16 +84,4 @@ fn times_root<F: Field>(polynomial: &mut [u8], used: usize, root: u8)
         below = coefficient;
     }
     polynomial[used] = below;
-}
-
-// The sum of the syndromes, each times its weight.
-fn weighed_sum<F: Field>(weights: &[u8], syndromes: &[u8]) -> u8
-    requires { length weights.now ≤ length syndromes.now }
-    ensures { result ≡ weighed F.Field.field weights.now (λ j. slice_index syndromes.now j) 0 }
-{
-    let mut sum = 0;
-    for i in 0..weights.len() {
-        sum ^= F::times(weights[i], syndromes[i]);
-    }
-    sum
 }
