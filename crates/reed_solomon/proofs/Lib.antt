@@ -17,3 +17,4 @@ pub mod Repairs
 pub mod Packing
 pub mod RowRegisters
 pub mod WeighedSums
+pub mod Folds
