@@ -7,6 +7,7 @@ mod decoding;
 mod difference;
 mod generator;
 mod lengths;
+mod linear;
 mod locator;
 mod mending;
 mod places;
@@ -18,7 +19,6 @@ pub mod shifting;
 mod syndromes;
 pub mod table;
 mod values;
-mod weighing;
 
 pub use reed_solomon::ReedSolomon;
 pub use rows::row_coder::RowCoder;

@@ -4,8 +4,8 @@ ghost use Rattle.rs_algebra.specs.Polynomials.{Elements, times_root};
 ghost use Rattle.rs_algebra.specs.Words.{Missing, Places, ValueFor};
 ghost use Rattle.reed_solomon.specs.Repairs.{Valued};
 
+use crate::linear::weighed_sum;
 use crate::places::low_value;
-use crate::weighing::weighed_sum;
 use field::Field;
 
 const MOST_PLACES: usize = 16;

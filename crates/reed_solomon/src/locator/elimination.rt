@@ -3,9 +3,8 @@ ghost use Rattle.std.specs.Prelude.{◌≡◌, ℕ, ◌+◌, ◌<◌, ◌≤◌,
 ghost use Rattle.rs_algebra.specs.Polynomials.{weighed, zeros};
 ghost use Rattle.reed_solomon.specs.Locating.{FirstOff, Solve, cleared, held, vector};
 
-use crate::locator::rows::add_multiple;
+use crate::linear::{add_multiple, weighed_sum};
 use crate::locator::vectors::Vectors;
-use crate::weighing::weighed_sum;
 use field::Field;
 
 impl Vectors {

@@ -1,6 +1,6 @@
 // Locators by hand, of no error, of two errors, and of syndromes at random (the numbers are from another solver).
+use crate::linear::weighed_sum;
 use crate::locator::locator;
-use crate::weighing::weighed_sum;
 use field::{Field, Shifting, Table};
 
 #[test]

@@ -29,7 +29,7 @@ loop-i-preserved g c =
     let i = c.loop-i.i in (
       c.loop-i.invariant.0,
       c.loop-i.invariant.1,
-      more c.add_multiple.new.row c.loop-i.invariant.2 c.loop-i.auto.i (omega arith) c.add_multiple.auto.row
+      more c.add_multiple.new.list c.loop-i.invariant.2 c.loop-i.auto.i (omega arith) c.add_multiple.auto.list
           (made_clear f S 0 c.args.pivot.now (front c.args.self.now.width rows i) c.add_multiple.ensures c.times-factor.ensures
           (c.value_of.ensures ∙ ap (λ w. weighed f (front w rows i) S 0) c.loop-i.invariant.0) c.inverse-inverse.ensures c.weighed_sum.ensures),
     )

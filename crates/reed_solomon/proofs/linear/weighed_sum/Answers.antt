@@ -3,7 +3,7 @@ use lib.Bits.{bit_xor}
 use Rattle.std.proofs.lemmas.Iterator.{YieldsList-from_slice, YieldsList-from_zip}
 use Rattle.std.proofs.lemmas.Iterator.Consumers.{fold_from_yields_List}
 use Rattle.reed_solomon.proofs.WeighedSums.{weighed_folded}
-use Rattle.reed_solomon.proofs.weighing.weighed_sum.Goals as goal
+use Rattle.reed_solomon.proofs.linear.weighed_sum.Goals as goal
 
 pub returns : goal.returns
 returns g c =
