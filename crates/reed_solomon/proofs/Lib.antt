@@ -18,3 +18,4 @@ pub mod Packing
 pub mod RowRegisters
 pub mod WeighedSums
 pub mod Folds
+pub mod FromFn
