@@ -6,6 +6,17 @@ ghost use Rattle.reed_solomon.specs.Locating.{FirstOff, Solve, cleared, held, ve
 use crate::linear::{add_multiple, weighed_sum};
 use crate::locator::vectors::Vectors;
 use field::Field;
+use std::array;
+
+// The unit vector of a place.
+fn unit(place: usize) -> [u8; 9]
+    requires { place < 9 }
+    ensures { result ≡ slice_set (zeros 9) place 1 }
+{
+    let mut vector = [0; 9];
+    vector[place] = 1;
+    vector
+}
 
 impl Vectors {
     // The unit vectors.
@@ -15,12 +26,8 @@ impl Vectors {
         ensures kept { result.kept ≡ width }
         ensures units { (i : ℕ) → i < width → vector result i ≡ slice_set (zeros width) i 1 }
     {
-        let mut rows = [[0; 9]; 9];
-        for i in 0..9usize {
-            rows[i][i] = 1;
-        }
         Vectors {
-            rows,
+            rows: array::from_fn(unit),
             width,
             kept: width,
         }
