@@ -1,5 +1,5 @@
 // From the syndromes of a spoilt word and a locator polynomial to its message.
-ghost use Rattle.std.specs.Prelude.{◌≡◌, ℕ, ◌+◌, ◌<◌, ◌≤◌, length, take, slice_index};
+ghost use Rattle.std.specs.Prelude.{◌≡◌, ℕ, ◌+◌, ◌<◌, ◌≤◌, length, slice_index};
 ghost use Rattle.rs_algebra.specs.Polynomials.{Elements};
 ghost use Rattle.rs_algebra.specs.Words.{Places};
 ghost use Rattle.reed_solomon.specs.Repairs.{Repaired, RepairedAt, Valued};
@@ -64,15 +64,7 @@ fn repair_at<F: Field>(
     if !explains::<F>(syndromes, received.len(), places, values) {
         return None;
     }
-    copy_front(received, message);
+    message.copy_from_slice(&received[..message.len()]);
     mend_message(message, places, values);
     Some(count_nonzero(values))
-}
-
-fn copy_front(received: &[u8], message: &mut [u8])
-    requires { length message.old ≤ length received.now }
-    ensures { message.new ≡ take (length message.old) received.now }
-{
-    let front = &received[..message.len()];
-    message.copy_from_slice(front);
 }
