@@ -19,3 +19,4 @@ pub mod RowRegisters
 pub mod WeighedSums
 pub mod Folds
 pub mod FromFn
+pub mod Carries
