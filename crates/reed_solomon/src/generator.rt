@@ -5,9 +5,6 @@ ghost use Rattle.rs_algebra.specs.Polynomials.{Elements, zeros, product, generat
 
 use field::Field;
 
-// The coefficients of the longest generator polynomial.
-pub(crate) const MOST_COEFFICIENTS: usize = 17;
-
 // Multiplies by D + root, in place: highest power first, with room behind the last coefficient.
 fn add_root<F: Field>(polynomial: &mut [u8], root: u8)
     ensures { (p : List ℕ) (n : ℕ) → Elements F.Field.field p → polynomial.old ≡ p ++ zeros (n + 1) → polynomial.new ≡ product F.Field.field p (1 ∷ root ∷ []) ++ zeros n }

@@ -2,6 +2,7 @@
 #![tactic(auto)]
 
 pub mod accepted;
+mod bounds;
 mod coding;
 mod decoding;
 mod difference;

@@ -9,10 +9,7 @@ pub(crate) fn weighed_sum<F: Field>(weights: &[u8], numbers: &[u8]) -> u8
     requires { length weights.now ≤ length numbers.now }
     ensures { result ≡ weighed F.Field.field weights.now (λ j. slice_index numbers.now j) 0 }
 {
-    weights
-        .iter()
-        .zip(numbers)
-        .fold(0, |sum, (weight, number)| sum ^ F::times(*weight, *number))
+    weights.iter().zip(numbers).fold(0, |sum, (weight, number)| sum ^ F::times(*weight, *number))
 }
 
 // Adds `factor` times the other list.

@@ -5,9 +5,8 @@ ghost use Rattle.rs_algebra.specs.Polynomials.{Elements};
 ghost use Rattle.rs_algebra.specs.Words.{mend, terms_at, weight};
 ghost use Rattle.reed_solomon.specs.Repairs.{Passes};
 
+use crate::decoding::MOST_CHECK;
 use field::Field;
-
-const MOST_SYNDROMES: usize = 16;
 
 // Whether an error with these values at these places of a word of `word` octets has these syndromes.
 pub(crate) fn explains<F: Field>(
@@ -24,7 +23,7 @@ pub(crate) fn explains<F: Field>(
     ensures passes { result ≡ true → Passes F.Field.field word places.now values.now syndromes.now }
     ensures fails { result ≡ false → Passes F.Field.field word places.now values.now syndromes.now → ⊥ }
 {
-    let mut room = [0; MOST_SYNDROMES];
+    let mut room = [0; MOST_CHECK];
     let sums = &mut room[..syndromes.len()];
     add_terms::<F>(word, places, values, sums);
     *sums == *syndromes

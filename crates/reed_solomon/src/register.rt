@@ -3,7 +3,8 @@ ghost use Rattle.std.specs.Prelude.{◌≡◌, ◌+◌, ◌≤◌, length};
 ghost use Rattle.coder.specs.Codes.{Octets};
 ghost use Rattle.rs_algebra.specs.Words.{check_of, register_step};
 
-use crate::generator::{MOST_COEFFICIENTS, generator_polynomial};
+use crate::bounds::MOST_COEFFICIENTS;
+use crate::generator::generator_polynomial;
 use crate::linear::add_multiple;
 use field::Field;
 

@@ -4,11 +4,10 @@ ghost use Rattle.rs_algebra.specs.Polynomials.{Elements, times_root, zeros};
 ghost use Rattle.rs_algebra.specs.Words.{Missing, Places, ValueFor};
 ghost use Rattle.reed_solomon.specs.Repairs.{Valued};
 
+use crate::bounds::MOST_REPAIRS;
 use crate::linear::weighed_sum;
 use crate::places::low_value;
 use field::Field;
-
-const MOST_PLACES: usize = 16;
 
 // The values that an error with these syndromes has if it is nowhere but at these places of a word of `word` octets.
 pub(crate) fn error_values<F: Field>(
@@ -19,7 +18,7 @@ pub(crate) fn error_values<F: Field>(
 )
     requires fits { word < F.Field.field.size }
     requires places { Places word places.now }
-    requires most { length places.now ≤ 16 }
+    requires most { length places.now ≤ 8 }
     requires enough { length places.now ≤ length syndromes.now }
     requires alike { length places.now ≡ length values.old }
     ensures values { Valued F.Field.field word syndromes.now places.now values.new }
@@ -35,11 +34,11 @@ fn value_for<F: Field>(syndromes: &[u8], word: usize, places: &[u8], place: u8) 
     requires fits { word < F.Field.field.size }
     requires inside { (i : ℕ) → i < length places.now → slice_index places.now i < word }
     requires among { (i : ℕ) × (i < length places.now) × (slice_index places.now i ≡ place) }
-    requires most { length places.now ≤ 16 }
+    requires most { length places.now ≤ 8 }
     requires enough { length places.now ≤ length syndromes.now }
     ensures { ValueFor F.Field.field word (λ j. slice_index syndromes.now j) places.now place result }
 {
-    let mut room = [0; MOST_PLACES];
+    let mut room = [0; MOST_REPAIRS];
     let polynomial = &mut room[..places.len()];
     vanishing_elsewhere::<F>(word, places, place, polynomial);
     let here = low_value::<F>(polynomial, F::power((word - 1 - place as usize) as u8));

@@ -3,17 +3,18 @@ ghost use Rattle.std.specs.Prelude.{◌≡◌, ℕ, ◌+◌, ◌<◌, ◌≤◌,
 ghost use Rattle.rs_algebra.specs.Polynomials.{weighed, zeros};
 ghost use Rattle.reed_solomon.specs.Locating.{FirstOff, Solve, cleared, held, vector};
 
+use crate::bounds::MOST_UNKNOWNS;
 use crate::linear::{add_multiple, weighed_sum};
 use crate::locator::vectors::Vectors;
 use field::Field;
 use std::array;
 
 // The unit vector of a place.
-fn unit(place: usize) -> [u8; 9]
+fn unit(place: usize) -> [u8; MOST_UNKNOWNS]
     requires { place < 9 }
     ensures { result ≡ slice_set (zeros 9) place 1 }
 {
-    let mut vector = [0; 9];
+    let mut vector = [0; MOST_UNKNOWNS];
     vector[place] = 1;
     vector
 }
@@ -51,13 +52,7 @@ impl Vectors {
     }
 
     // Adds to each of the vectors `from` to `to` - 1 so much of the pivot that it meets the equation.
-    fn eliminate<F: Field>(
-        &mut self,
-        from: usize,
-        to: usize,
-        pivot: &[u8],
-        equation: &[u8],
-    )
+    fn eliminate<F: Field>(&mut self, from: usize, to: usize, pivot: &[u8], equation: &[u8])
         requires range { (from ≤ to) × (to ≤ self.old.kept) }
         requires inside { self.old.width ≤ length equation.now }
         requires wide { length pivot.now ≡ self.old.width }

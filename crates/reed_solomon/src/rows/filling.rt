@@ -4,7 +4,8 @@ ghost use Rattle.field.specs.Binary.{octets};
 ghost use Rattle.rs_algebra.specs.Polynomials.{scaled};
 ghost use Rattle.reed_solomon.specs.Rows.{packed, RowsOf};
 
-use crate::generator::{MOST_COEFFICIENTS, generator_polynomial};
+use crate::bounds::MOST_COEFFICIENTS;
+use crate::generator::generator_polynomial;
 use field::{Field, Table};
 use std::array;
 
@@ -19,10 +20,10 @@ fn put_on_top(octet: u8, row: u128) -> u128
 fn row(coefficients: &[u8], factor: u8) -> u128
     ensures { result ≡ packed 16 (scaled octets factor coefficients.now) }
 {
-    coefficients.iter().rev().fold(0, |row, coefficient| put_on_top(
-        Table::times(factor, *coefficient),
-        row,
-    ))
+    coefficients.iter().rev().fold(
+        0,
+        |row, coefficient| put_on_top(Table::times(factor, *coefficient), row),
+    )
 }
 
 // The rows of the generator polynomial with `check` roots: its coefficients but the first.

@@ -45,7 +45,7 @@ returns g c =
           let here : p < length v.rows = omega (arith, off.0) in
           let next = w.eliminate.new.self in
           let solved : Met v.width (vector next)
-          = pivoted f laws c.requires.met fewer p (omega (arith, off.0)) {R₁ = front v.width (set v.rows p (get_or v.rows m []))} 
+          = pivoted f laws c.requires.met fewer p (omega (arith, off.0)) {R₁ = front v.width (set v.rows p (get_or v.rows m []))}
           (rw (from (vector v p)) at off.1) (λ i l. sym (from (vector v i)) ∙ off.2 i l)
           (front-moved v.width v.rows m p here) (λ k ne. front_else v.width v.rows p k (get_or v.rows m []) ne)
           w.eliminate.ensures.before

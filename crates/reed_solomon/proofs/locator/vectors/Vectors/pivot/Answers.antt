@@ -9,7 +9,7 @@ use Rattle.reed_solomon.proofs.locator.vectors.Vectors.pivot.Goals as goal
 
 first_off : (f : Field) (S : ℕ → ℕ) (v : Vectors) (r : Option ℕ)
     → MatchOption r ((k : ℕ) → 0 ≤ k → k < v.kept → weighed f (vector v k) S 0 ≡ 0)
-        (λ i. (0 ≤ i) × (i < v.kept) × (0 < weighed f (vector v i) S 0) × ((k : ℕ) → 0 ≤ k → k < i → weighed f (vector v k) S 0 ≡ 0))
+    (λ i. (0 ≤ i) × (i < v.kept) × (0 < weighed f (vector v i) S 0) × ((k : ℕ) → 0 ≤ k → k < i → weighed f (vector v k) S 0 ≡ 0))
     → FirstOff f S 0 v r
 first_off f S v None h = λ k l. h k (omega arith) l
 first_off f S v (Some p) h = (h.1, h.2, λ k l. h.3 k (omega arith) l)
