@@ -26,7 +26,7 @@ fn gives_back(
     let mut found = [0; 8];
     let count = root_places::<Table>(locator, word, &mut found);
     assert!(rt; count <= sums.len());
-    assert!(rt; found[..count] == *places);
+    assert!(rt; &found[..count] == places);
     measures(rt, word, sums, &found[..count], values);
     assert!(rt; locator.len() <= sums.len() + 1 && sums.len() <= word);
     let mut error = [0; 255];
