@@ -18,7 +18,7 @@ fn add(sum: &mut [u8], octets: &[u8])
 }
 
 // All 0 where the word is that of its first octets.
-#[tactic(auto, using(std::proofs::lemmas::List::take_rest), unfolding(rs_algebra::specs::Words::check_difference),)]
+#[tactic(auto, using(std::proofs::lemmas::List::take_rest), unfolding(rs_algebra::specs::Words::check_difference))]
 pub(crate) fn check_difference<C: Checks>(coder: &C, received: &[u8], difference: &mut [u8])
     requires { (length difference.old ≡ (C.numbers coder.now).check) × (length received.now ≡ (C.numbers coder.now).sizes.word) }
     ensures { difference.new ≡ check_difference C.Over.Field.field (C.numbers coder.now).sizes.frame (length difference.old) received.now }

@@ -1,7 +1,7 @@
 // Words by hand and from another coder, the edges of the sizes, and the refusals by length.
 use crate::reed_solomon::ReedSolomon;
 use coder::{Coder, Misfit, Refusal, Undecoded};
-use field::{Field, Shifting, Table};
+use field::{Field, OctetField, Shifting, Table};
 use std::process::Abort;
 use std::test::Fail;
 
@@ -51,17 +51,18 @@ fn decodes<C: Coder>(rt: &impl Abort, coder: &C, message: &[u8], word: &[u8]) {
     assert!(rt; *found == *message);
 }
 
+fn one<F: OctetField>(rt: &impl Abort, message: &[u8], word: &[u8]) -> Result<(), Fail> {
+    assert!(rt; message.len() <= word.len());
+    let coder = ReedSolomon::<F>::new(message.len(), word.len() - message.len())?;
+    encodes(rt, &coder, message, word);
+    decodes(rt, &coder, message, word);
+    Ok(())
+}
+
 // Both makes of the field write the word, and read it.
 fn both(rt: &impl Abort, message: &[u8], word: &[u8]) -> Result<(), Fail> {
-    assert!(rt; message.len() <= word.len());
-    let check_octets = word.len() - message.len();
-    let table = ReedSolomon::<Table>::new(message.len(), check_octets)?;
-    encodes(rt, &table, message, word);
-    decodes(rt, &table, message, word);
-    let shifting = ReedSolomon::<Shifting>::new(message.len(), check_octets)?;
-    encodes(rt, &shifting, message, word);
-    decodes(rt, &shifting, message, word);
-    Ok(())
+    one::<Table>(rt, message, word)?;
+    one::<Shifting>(rt, message, word)
 }
 
 #[test]
