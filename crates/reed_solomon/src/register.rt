@@ -1,6 +1,5 @@
 // The check octets of a message, by a shift register.
 ghost use Rattle.std.specs.Prelude.{◌≡◌, ◌+◌, ◌≤◌, length};
-ghost use Rattle.coder.specs.Codes.{Octets};
 ghost use Rattle.rs_algebra.specs.Words.{check_of, register_step};
 
 use crate::bounds::MOST_COEFFICIENTS;
@@ -26,8 +25,7 @@ fn feed<F: Field>(polynomial: &[u8], register: &mut [u8], octet: u8)
 // Writes the remainder of the message, with as many zeros behind it as the register is long, by the generator polynomial.
 pub(crate) fn remainder<F: Field>(message: &[u8], register: &mut [u8])
     requires { length register.old ≤ 16 }
-    ensures check { register.new ≡ check_of F.Field.field (length register.old) message.now }
-    ensures octets { Octets message.now }
+    ensures { register.new ≡ check_of F.Field.field (length register.old) message.now }
 {
     let mut room = [0; MOST_COEFFICIENTS];
     let polynomial = &mut room[..=register.len()];

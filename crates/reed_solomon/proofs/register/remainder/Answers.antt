@@ -20,8 +20,5 @@ returns g c =
     let p = c.generator_polynomial.new.polynomial in
     let long : length p - 1 ≡ R = omega (arith, length-take {A = ℕ}) in
     let told : p ≡ generator f (length p - 1) = c.generator_polynomial.ensures ∙ ap (λ n. generator f (n - 1)) (sym c.generator_polynomial.auto.polynomial) in
-    record {
-      check = all_passed f g.met.F.Field.laws p R c.args.message.now c.loop-octet.octet-index c.loop-octet.register c.loop-octet-test.false
-          (told ∙ ap (generator f) long) c.loop-octet.invariant;
-      octets = λ k. (c.type_inv.message k).fits;
-    }
+    all_passed f g.met.F.Field.laws p R c.args.message.now c.loop-octet.octet-index c.loop-octet.register c.loop-octet-test.false
+    (told ∙ ap (generator f) long) c.loop-octet.invariant
