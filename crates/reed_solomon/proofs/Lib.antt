@@ -15,3 +15,7 @@ pub mod OneMore
 pub mod Repairs
 pub mod Packing
 pub mod RowRegisters
+pub mod WeighedSums
+pub mod Folds
+pub mod FromFn
+pub mod Carries

@@ -1,30 +1,21 @@
--- Terms and values at a list's first places, one place more; and mending a word's front. Assumes nothing.
-use Rattle.std.proofs.Common.{◌≡◌, ℕ, ◌+◌, ◌<◌, ◌≤◌, cond, eqb, ◌⊎◌, List, [], ◌∷◌, ◌++◌, length, get_or, take, set, sym, refl, ap, ◌∙◌, ap₂, inl, inr, arith, length-take}
+-- Terms at a list's first places, one place more; mending a word's front; and the weight as a count. Assumes nothing.
+use Rattle.std.proofs.Common.{◌≡◌, ℕ, ◌+◌, ◌<◌, ◌≤◌, Bool, true, false, cond, eqb, not, count_by, ◌⊎◌, List, [], ◌∷◌, length, get_or, take, set, sym, refl, ap, ◌∙◌, ap₂, inl, inr, arith, length-take}
 use lib.Bits.{bit_xor}
 use lib.Seq.{set_out, take-set-lt}
 use Rattle.std.proofs.lemmas.List.{length-take-le, get_or-take, take_more, take-set-le}
-use Rattle.std.proofs.lemmas.Bool.{cases_lt, eq-eqb, ne_eqb}
+use Rattle.std.proofs.lemmas.Bool.{cases_lt}
+use Rattle.std.proofs.lemmas.List.Recursion.{is_count_by}
 use Rattle.field.specs.Field.{Field, Laws, raised}
 use Rattle.rs_algebra.specs.Words.{locator, mend, terms_at, weight}
-use Rattle.rs_algebra.proofs.Mending.{mend_more, terms_more, weight_most}
+use Rattle.rs_algebra.proofs.Mending.{mend_more, terms_more}
 
-weight_push : (xs : List ℕ) (x : ℕ) → weight (xs ++ x ∷ []) ≡ weight xs + cond (eqb x 0) 0 1
+pub weight_counted : (xs : List ℕ) → weight xs ≡ count_by (λ x. not (eqb x 0)) xs
 unfolding weight
-weight_push [] x = omega arith
-weight_push (y ∷ xs) x = omega (arith, weight_push xs x)
-
-module _ (xs : List ℕ) (i : ℕ) (h : i < length xs) where
-  weight_next : weight (take (i + 1) xs) ≡ weight (take i xs) + cond (eqb (get_or xs i 0) 0) 0 1
-  weight_next = ap weight (take_more xs i 0 h) ∙ weight_push (take i xs) (get_or xs i 0)
-
-  pub weight_some : ¬ (get_or xs i 0 ≡ 0) → weight (take (i + 1) xs) ≡ weight (take i xs) + 1
-  weight_some some = weight_next ∙ ap (λ b. weight (take i xs) + cond b 0 1) (ne_eqb (get_or xs i 0) 0 some)
-
-  pub weight_none : get_or xs i 0 ≡ 0 → weight (take (i + 1) xs) ≡ weight (take i xs)
-  weight_none none = weight_next ∙ ap (λ b. weight (take i xs) + cond b 0 1) (eq-eqb (get_or xs i 0) 0 none) ∙ omega arith
-
-  pub weight_before : weight (take i xs) ≤ i
-  weight_before = omega (arith, weight_most (take i xs), length-take-le i xs (omega arith))
+weight_counted = is_count_by weight (λ x. not (eqb x 0)) refl (λ x xs. one (eqb x 0) (weight xs))
+  where
+    one : (b : Bool) (n : ℕ) → cond b 0 1 + n ≡ cond (not b) (1 + n) n
+    one true n = omega arith
+    one false n = omega arith
 
 pub mend_next : (xs ws vs : List ℕ) (i : ℕ) → length ws ≡ length vs → i < length ws
     → mend xs (take (i + 1) ws) (take (i + 1) vs)

@@ -1,19 +1,16 @@
 -- The register as one number, and the rows that feed it. Assumes nothing.
-use Rattle.std.proofs.Common.{◌≡◌, ℕ, suc, ◌+◌, ◌-◌, ◌*◌, ◌/◌, ◌^◌, ◌<◌, ◌≤◌, ◌⊎◌, List, [], ◌∷◌, ◌++◌, length, get_or, take, drop, set, sym, refl, ap, ◌∙◌, ap₂, inl, inr, arith}
+use Rattle.std.proofs.Common.{◌≡◌, ℕ, suc, ◌+◌, ◌*◌, ◌/◌, ◌^◌, ◌<◌, ◌≤◌, List, [], ◌∷◌, ◌++◌, length, get_or, drop, sym, refl, ap, ◌∙◌, ap₂, fold, reverse, arith}
 use lib.Bits.{bit_xor, xor_comm, xor_lt}
-use Rattle.std.proofs.lemmas.List.{drop_all, drop_more, get_or-drop, get_or-take, get_or-set_same, get_or-set_other}
-use Rattle.std.proofs.lemmas.Bool.{cases_lt}
 use Rattle.coder.specs.Codes.{Octets}
 use Rattle.field.specs.Binary.{octets}
 use Rattle.field.specs.Octets.{octet_laws}
 use Rattle.rs_algebra.specs.Polynomials.{zeros, scaled, generator}
 use Rattle.rs_algebra.specs.Words.{register_step, register, check_of}
-use Rattle.rs_algebra.proofs.Lists.{zeros_long, zeros_elements, scaled_long, scaled_elements, append_elements, drop_elements}
-use Rattle.rs_algebra.proofs.LowFirst.{scaled_reads}
+use Rattle.rs_algebra.proofs.Lists.{zeros_long, zeros_elements, scaled_elements, append_elements, drop_elements}
 use Rattle.rs_algebra.proofs.Division.{lower_long}
 use Rattle.rs_algebra.proofs.Registers.{step_long, step_elements, check_register}
-use Rattle.std.specs.List.{fold}
 use Rattle.reed_solomon.specs.Rows.{packed, RowsOf, fed_back}
+use Rattle.reed_solomon.proofs.Folds.{fold-reverse}
 use Rattle.reed_solomon.proofs.Packing.{packed-plus, packed_top, packed_zero, packed-zeros, packed_up, packed_down}
 
 -- one octet of a message
@@ -52,57 +49,10 @@ packed_check R rows right few m o =
     ∙ folded R rows right few (zeros R) m (zeros_elements octets octet_laws R) (zeros_long R) o
     ∙ ap (packed 16) (sym (check_register octets octet_laws R m))
 
--- a row's octets: the products of a factor and the coefficients 1 to R of a polynomial
-abbrev pub products : (factor R : ℕ) (p : List ℕ) → List ℕ
-products factor R p = scaled octets factor (drop 1 (take (R + 1) p))
-
--- a row is packed from its last octet on: those from k on are
-abbrev pub Packed : (factor R : ℕ) (p : List ℕ) (k held : ℕ) → Type 0
-Packed factor R p k held = held ≡ packed 16 (drop k (products factor R p))
-
-module _ (factor R : ℕ) (p : List ℕ) (long : length (drop 1 (take (R + 1) p)) ≡ R) where
-  products_long : length (products factor R p) ≡ R
-  products_long = scaled_long octets factor (drop 1 (take (R + 1) p)) ∙ long
-
-  pub none_packed : Packed factor R p R 0
-  unfolding packed
-  none_packed = ap (packed 16) (sym (drop_all R (products factor R p) (omega (arith, products_long))))
-
-  pub one_packed : (k held : ℕ) → 0 < k → k ≤ R → Packed factor R p k held
-      → Packed factor R p (k - 1) (octets.times factor (get_or p (k - 1 + 1) 0) * 2 ^ 120 + held / 256)
-  unfolding packed
-  one_packed k held some inside is =
-      ap₂ (λ a b. a * 2 ^ 120 + b) value rest ∙ ap (packed 16) (sym (drop_more xs (k - 1) 0 (omega (arith, products_long))))
-    where
-      xs : List ℕ
-      xs = products factor R p
-
-      value : octets.times factor (get_or p (k - 1 + 1) 0) ≡ get_or (products factor R p) (k - 1) 0
-      value =
-          let comm : 1 + (k - 1) ≡ k - 1 + 1 = omega arith in
-          sym (scaled_reads octets octet_laws factor (drop 1 (take (R + 1) p)) (k - 1)
-          ∙ ap (octets.times factor) (get_or-drop 1 (take (R + 1) p) (k - 1) 0 ∙ get_or-take (R + 1) p (1 + (k - 1)) 0 (omega arith) ∙ ap (λ i. get_or p i 0) comm))
-
-      rest : held / 256 ≡ packed 15 (drop (k - 1 + 1) (products factor R p))
-      rest =
-          let e : k ≡ k - 1 + 1 = omega arith in
-          ap (λ n. n / 256) (is ∙ ap (λ i. packed 16 (drop i (products factor R p))) e)
-          ∙ packed_down 15 (drop (k - 1 + 1) (products factor R p))
-          (drop_elements octets octet_laws (k - 1 + 1) (products factor R p) (scaled_elements octets octet_laws factor (drop 1 (take (R + 1) p))))
-
-pub all_packed : (factor R : ℕ) (p : List ℕ) (k held : ℕ) → k ≤ 0 → Packed factor R p k held → held ≡ packed 16 (products factor R p)
-all_packed factor R p k held h is = let e : k ≡ 0 = omega arith in is ∙ ap (λ i. packed 16 (drop i (products factor R p))) e
-
--- the rows of the factors below n are written
-abbrev pub Filled : (R : ℕ) (p rows : List ℕ) (n : ℕ) → Type 0
-Filled R p rows n = (f : ℕ) → f < n → get_or rows f 0 ≡ packed 16 (products f R p)
-
-pub filled_more : (R : ℕ) (p rows : List ℕ) (n row : ℕ) → n < length rows → Filled R p rows n → row ≡ packed 16 (products n R p)
-    → Filled R p (set rows n row) (n + 1)
-filled_more R p rows n row inside filled is f h = go (cases_lt f n)
-  where
-    go : (f < n) ⊎ (n ≤ f) → get_or (set rows n row) f 0 ≡ packed 16 (products f R p)
-    go (inl before) = get_or-set_other rows n f row 0 (omega arith) ∙ filled f before
-    go (inr at) =
-        let e : f ≡ n = omega arith in
-        ap (λ i. get_or (set rows n row) i 0) e ∙ get_or-set_same rows n row 0 inside ∙ is ∙ ap (λ i. packed 16 (products i R p)) (sym e)
+-- a row is packed from its last octet on
+pub row_folded : (factor : ℕ) (p : List ℕ) → fold (λ row c. octets.times factor c * 2 ^ 120 + row / 256) 0 (reverse p) ≡ packed 16 (scaled octets factor p)
+unfolding packed scaled
+row_folded factor =
+    fold-reverse (λ row c. octets.times factor c * 2 ^ 120 + row / 256) 0 (λ p. packed 16 (scaled octets factor p)) refl
+    (λ c p. ap (λ r. octets.times factor c * 2 ^ 120 + r)
+    (sym (packed_down 15 (scaled octets factor p) (scaled_elements octets octet_laws factor p))))

@@ -7,6 +7,7 @@ ghost use Rattle.rs_algebra.specs.Words.{check_difference};
 ghost use Rattle.reed_solomon.specs.Constructed.{code_over};
 ghost use Rattle.reed_solomon.specs.Decoding.{Answered};
 
+use crate::bounds::MOST_UNKNOWNS;
 use crate::checks::Checks;
 use crate::difference::check_difference;
 use crate::locator::locator;
@@ -42,7 +43,7 @@ fn decode_difference<F: Field>(
     }
     let check = difference.len();
     let mut found = [0; MOST_CHECK];
-    let mut polynomial = [0; MOST_CHECK / 2 + 1];
+    let mut polynomial = [0; MOST_UNKNOWNS];
     let found = &mut found[..check];
     let polynomial = &mut polynomial[..check / 2 + 1];
     syndromes::<F>(difference, found);

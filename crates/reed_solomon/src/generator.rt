@@ -1,12 +1,9 @@
 // The generator polynomial, whose roots are the first powers of alpha.
-ghost use Rattle.std.specs.Prelude.{◌≡◌, ℕ, ◌+◌, ◌≤◌, List, [], ◌∷◌, ◌++◌, take};
+ghost use Rattle.std.specs.Prelude.{◌≡◌, ℕ, ◌+◌, ◌-◌, ◌<◌, ◌≤◌, List, [], ◌∷◌, ◌++◌, length};
 ghost use Rattle.field.specs.Field.{power};
 ghost use Rattle.rs_algebra.specs.Polynomials.{Elements, zeros, product, generator};
 
 use field::Field;
-
-// The coefficients of the longest generator polynomial.
-pub(crate) const MOST_COEFFICIENTS: usize = 17;
 
 // Multiplies by D + root, in place: highest power first, with room behind the last coefficient.
 fn add_root<F: Field>(polynomial: &mut [u8], root: u8)
@@ -27,15 +24,15 @@ fn root<F: Field>(i: u8) -> u8
     F::power(i)
 }
 
-// Highest power first, in the first `check` + 1 places.
-pub(crate) fn generator_polynomial<F: Field>(check: usize) -> [u8; MOST_COEFFICIENTS]
-    requires { check ≤ 16 }
-    ensures { take (check + 1) result ≡ generator F.Field.field check }
+// Writes the generator polynomial of as many roots as the list has room for, highest power first.
+pub(crate) fn generator_polynomial<F: Field>(polynomial: &mut [u8])
+    requires some { 0 < length polynomial.old }
+    requires most { length polynomial.old ≤ 17 }
+    ensures { polynomial.new ≡ generator F.Field.field (length polynomial.old - 1) }
 {
-    let mut polynomial = [0; MOST_COEFFICIENTS];
+    polynomial.fill(0);
     polynomial[0] = 1;
-    for i in 0..check as u8 {
-        add_root::<F>(&mut polynomial, root::<F>(i));
+    for i in 0..(polynomial.len() - 1) as u8 {
+        add_root::<F>(polynomial, root::<F>(i));
     }
-    polynomial
 }

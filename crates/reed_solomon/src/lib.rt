@@ -2,11 +2,13 @@
 #![tactic(auto)]
 
 pub mod accepted;
+mod bounds;
 mod checks;
 mod coding;
 mod decoding;
 mod difference;
 mod generator;
+mod linear;
 mod locator;
 mod mending;
 pub mod over_octets;

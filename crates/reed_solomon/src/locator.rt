@@ -6,7 +6,6 @@ use crate::locator::vectors::Vectors;
 use field::Field;
 
 mod elimination;
-mod rows;
 #[cfg(test)]
 mod tests;
 mod vectors;

@@ -5,9 +5,8 @@ ghost use Rattle.rs_algebra.specs.Polynomials.{Elements};
 ghost use Rattle.rs_algebra.specs.Words.{mend, terms_at, weight};
 ghost use Rattle.reed_solomon.specs.Repairs.{Passes};
 
+use crate::decoding::MOST_CHECK;
 use field::Field;
-
-const MOST_SYNDROMES: usize = 16;
 
 // Whether an error with these values at these places of a word of `word` octets has these syndromes.
 pub(crate) fn explains<F: Field>(
@@ -24,10 +23,10 @@ pub(crate) fn explains<F: Field>(
     ensures passes { result ≡ true → Passes F.Field.field word places.now values.now syndromes.now }
     ensures fails { result ≡ false → Passes F.Field.field word places.now values.now syndromes.now → ⊥ }
 {
-    let mut room = [0; MOST_SYNDROMES];
+    let mut room = [0; MOST_CHECK];
     let sums = &mut room[..syndromes.len()];
     add_terms::<F>(word, places, values, sums);
-    same(sums, syndromes)
+    *sums == *syndromes
 }
 
 // Writes the syndromes of the error that these terms make: one running power for each term.
@@ -57,20 +56,6 @@ fn add_term<F: Field>(value: u8, x: u8, sums: &mut [u8])
     }
 }
 
-// Whether two lists of the same length read alike.
-fn same(a: &[u8], b: &[u8]) -> bool
-    requires { length a.now ≡ length b.now }
-    ensures alike { result ≡ true → (j : ℕ) → j < length b.now → slice_index a.now j ≡ slice_index b.now j }
-    ensures differ { result ≡ false → ((j : ℕ) → j < length b.now → slice_index a.now j ≡ slice_index b.now j) → ⊥ }
-{
-    for i in 0..a.len() {
-        if a[i] != b[i] {
-            return false;
-        }
-    }
-    true
-}
-
 // Adds the values at the places. A place behind the end, where a word's check octets are, is passed over.
 pub(crate) fn mend_message(message: &mut [u8], places: &[u8], values: &[u8])
     requires { length places.now ≡ length values.now }
@@ -84,14 +69,10 @@ pub(crate) fn mend_message(message: &mut [u8], places: &[u8], values: &[u8])
     }
 }
 
+// How many of the values are not 0.
+#[tactic(auto, using(crate::proofs::OneMore::weight_counted))]
 pub(crate) fn count_nonzero(values: &[u8]) -> usize
     ensures { result ≡ weight values.now }
 {
-    let mut count = 0;
-    for value in values.iter() {
-        if *value != 0 {
-            count += 1;
-        }
-    }
-    count
+    values.iter().filter(|value| **value != 0).count()
 }

@@ -32,9 +32,8 @@ pub(crate) fn root_places<F: Field>(locator: &[u8], word: usize, places: &mut [u
 pub(crate) fn low_value<F: Field>(polynomial: &[u8], x: u8) -> u8
     ensures { result ≡ low_at F.Field.field polynomial.now x }
 {
-    let mut sum = 0;
-    for i in (0..polynomial.len()).rev() {
-        sum = polynomial[i] ^ F::times(x, sum);
-    }
-    sum
+    polynomial
+        .iter()
+        .rev()
+        .fold(0, |sum, coefficient| *coefficient ^ F::times(x, sum))
 }

@@ -1,15 +1,14 @@
 // From the syndromes of a spoilt word and a locator polynomial to its message.
-ghost use Rattle.std.specs.Prelude.{◌≡◌, ℕ, ◌+◌, ◌<◌, ◌≤◌, length, take, slice_index};
+ghost use Rattle.std.specs.Prelude.{◌≡◌, ℕ, ◌+◌, ◌<◌, ◌≤◌, length, slice_index};
 ghost use Rattle.rs_algebra.specs.Polynomials.{Elements};
 ghost use Rattle.rs_algebra.specs.Words.{Places};
 ghost use Rattle.reed_solomon.specs.Repairs.{Repaired, RepairedAt, Valued};
 
+use crate::bounds::MOST_REPAIRS;
 use crate::mending::{count_nonzero, explains, mend_message};
 use crate::places::root_places;
 use crate::values::error_values;
 use field::Field;
-
-const MOST_REPAIRS: usize = 8;
 
 // Writes the message of a received word with these syndromes, repaired at the places that the locator polynomial names. Answers how
 // many octets of the word were wrong, or nothing if such an error does not account for the syndromes.
@@ -50,7 +49,7 @@ fn repair_at<F: Field>(
 ) -> Option<usize>
     requires fits { length received.now < F.Field.field.size }
     requires places { Places (length received.now) places.now }
-    requires few { length places.now ≤ 16 }
+    requires few { length places.now ≤ 8 }
     requires enough { length places.now ≤ length syndromes.now }
     requires alike { length places.now ≡ length values.old }
     requires most { length syndromes.now ≤ 16 }
@@ -64,15 +63,7 @@ fn repair_at<F: Field>(
     if !explains::<F>(syndromes, received.len(), places, values) {
         return None;
     }
-    copy_front(received, message);
+    message.copy_from_slice(&received[..message.len()]);
     mend_message(message, places, values);
     Some(count_nonzero(values))
-}
-
-fn copy_front(received: &[u8], message: &mut [u8])
-    requires { length message.old ≤ length received.now }
-    ensures { message.new ≡ take (length message.old) received.now }
-{
-    let front = &received[..message.len()];
-    message.copy_from_slice(front);
 }

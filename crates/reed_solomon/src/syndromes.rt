@@ -12,7 +12,7 @@ pub(crate) fn syndromes<F: Field>(octets: &[u8], out: &mut [u8])
     ensures values { (j : ℕ) → j < length out.new → slice_index out.new j ≡ value_at F.Field.field octets.now (power F.Field.field j) }
     ensures elements { Elements F.Field.field out.new }
 {
-    for j in 0..out.len() {
-        out[j] = value_at::<F>(octets, F::power(j as u8));
+    for (j, syndrome) in out.iter_mut().enumerate() {
+        *syndrome = value_at::<F>(octets, F::power(j as u8));
     }
 }

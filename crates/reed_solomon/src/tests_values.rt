@@ -26,7 +26,7 @@ fn gives_back(
     let mut found = [0; 8];
     let count = root_places::<Table>(locator, word, &mut found);
     assert!(rt; count <= sums.len());
-    equal(rt, &found[..count], places);
+    assert!(rt; &found[..count] == places);
     measures(rt, word, sums, &found[..count], values);
     assert!(rt; locator.len() <= sums.len() + 1 && sums.len() <= word);
     let mut error = [0; 255];
@@ -98,7 +98,7 @@ fn spoils(
     assert!(rt; places.len() == values.len() && made.len() <= 16);
     mend_message(error, places, values);
     syndromes::<Table>(error, made);
-    equal(rt, made, sums);
+    assert!(rt; *made == *sums);
 }
 
 fn measures(rt: &impl Abort, word: usize, sums: &[u8], places: &[u8], values: &[u8])
@@ -111,18 +111,11 @@ fn measures(rt: &impl Abort, word: usize, sums: &[u8], places: &[u8], values: &[
     let mut made = [0; 8];
     let made = &mut made[..places.len()];
     error_values::<Table>(sums, word, places, made);
-    equal(rt, made, values);
+    assert!(rt; *made == *values);
     assert_eq!(rt; count_nonzero(made), places.len());
     assert!(rt; explains::<Table>(sums, word, places, made));
     assert!(rt; sums.len() > 1);
     assert!(rt; !explains::<Table>(&sums[1..], word, places, made));
-}
-
-fn equal(rt: &impl Abort, a: &[u8], b: &[u8]) {
-    assert!(rt; a.len() == b.len());
-    for i in 0..a.len() {
-        assert_eq!(rt; a[i], b[i]);
-    }
 }
 
 #[test]
@@ -183,7 +176,7 @@ fn errors(rt: HostRuntime) {
 fn mended_in_front(rt: HostRuntime) {
     let mut message = [0x10, 0x20, 0x30];
     mend_message(&mut message, &[2, 3, 0, 255], &[0x01, 0x02, 0x13, 0xff]);
-    equal(&rt, &message, &[0x03, 0x20, 0x31]);
+    assert_eq!(rt; message, [0x03, 0x20, 0x31]);
 }
 
 #[test]

@@ -1,13 +1,13 @@
 // The value of an error at each of some places, from the syndromes.
-ghost use Rattle.std.specs.Prelude.{◌≡◌, ℕ, ◌+◌, ◌<◌, ◌≤◌, length, take, slice_index};
-ghost use Rattle.rs_algebra.specs.Polynomials.{Elements, times_root, weighed};
+ghost use Rattle.std.specs.Prelude.{◌≡◌, ℕ, ◌+◌, ◌<◌, ◌≤◌, List, ◌++◌, length, slice_index};
+ghost use Rattle.rs_algebra.specs.Polynomials.{Elements, times_root, zeros};
 ghost use Rattle.rs_algebra.specs.Words.{Missing, Places, ValueFor};
 ghost use Rattle.reed_solomon.specs.Repairs.{Valued};
 
+use crate::bounds::MOST_REPAIRS;
+use crate::linear::weighed_sum;
 use crate::places::low_value;
 use field::Field;
-
-const MOST_PLACES: usize = 16;
 
 // The values that an error with these syndromes has if it is nowhere but at these places of a word of `word` octets.
 pub(crate) fn error_values<F: Field>(
@@ -18,7 +18,7 @@ pub(crate) fn error_values<F: Field>(
 )
     requires fits { word < F.Field.field.size }
     requires places { Places word places.now }
-    requires most { length places.now ≤ 16 }
+    requires most { length places.now ≤ 8 }
     requires enough { length places.now ≤ length syndromes.now }
     requires alike { length places.now ≡ length values.old }
     ensures values { Valued F.Field.field word syndromes.now places.now values.new }
@@ -34,65 +34,43 @@ fn value_for<F: Field>(syndromes: &[u8], word: usize, places: &[u8], place: u8) 
     requires fits { word < F.Field.field.size }
     requires inside { (i : ℕ) → i < length places.now → slice_index places.now i < word }
     requires among { (i : ℕ) × (i < length places.now) × (slice_index places.now i ≡ place) }
-    requires most { length places.now ≤ 16 }
+    requires most { length places.now ≤ 8 }
     requires enough { length places.now ≤ length syndromes.now }
     ensures { ValueFor F.Field.field word (λ j. slice_index syndromes.now j) places.now place result }
 {
-    let mut room = [0; MOST_PLACES + 1];
-    let used = vanishing_elsewhere::<F>(word, places, place, &mut room);
-    let polynomial = &room[..used];
+    let mut room = [0; MOST_REPAIRS];
+    let polynomial = &mut room[..places.len()];
+    vanishing_elsewhere::<F>(word, places, place, polynomial);
     let here = low_value::<F>(polynomial, F::power((word - 1 - place as usize) as u8));
     F::times(weighed_sum::<F>(polynomial, syndromes), F::inverse(here))
 }
 
-// Writes a polynomial, lowest power first, that vanishes at the locators of all the places but one. Returns its length.
-fn vanishing_elsewhere<F: Field>(
-    word: usize,
-    places: &[u8],
-    place: u8,
-    polynomial: &mut [u8],
-) -> usize
+// Writes a polynomial, lowest power first, that vanishes at the locators of all the places but one.
+fn vanishing_elsewhere<F: Field>(word: usize, places: &[u8], place: u8, polynomial: &mut [u8])
     requires fits { word < F.Field.field.size }
     requires inside { (i : ℕ) → i < length places.now → slice_index places.now i < word }
-    requires here { place < word }
-    requires room { length places.now < length polynomial.old }
-    ensures within { result ≤ length polynomial.new }
-    ensures missing { Missing F.Field.field word place places.now (take result polynomial.new) }
+    requires among { (i : ℕ) × (i < length places.now) × (slice_index places.now i ≡ place) }
+    requires room { length places.now ≡ length polynomial.old }
+    ensures { Missing F.Field.field word place places.now polynomial.new }
 {
+    polynomial.fill(0);
     polynomial[0] = 1;
-    let mut used = 1;
-    for other in places.iter() {
+    for other in places {
         if *other != place {
             let locator = F::power((word - 1 - *other as usize) as u8);
-            times_root::<F>(polynomial, used, locator);
-            used += 1;
+            times_root::<F>(polynomial, locator);
         }
     }
-    used
 }
 
-// Multiplies the polynomial of the first `used` coefficients by x + root.
-fn times_root<F: Field>(polynomial: &mut [u8], used: usize, root: u8)
-    requires { used < length polynomial.old }
-    ensures { take (used + 1) polynomial.new ≡ times_root F.Field.field root (take used polynomial.old) }
+// Multiplies by x + root, in place: lowest power first, with room behind the last coefficient.
+fn times_root<F: Field>(polynomial: &mut [u8], root: u8)
+    ensures { (p : List ℕ) (n : ℕ) → polynomial.old ≡ p ++ zeros (n + 1) → polynomial.new ≡ times_root F.Field.field root p ++ zeros n }
 {
     let mut below = 0;
-    for i in 0..used {
-        let coefficient = polynomial[i];
-        polynomial[i] = F::times(root, coefficient) ^ below;
-        below = coefficient;
+    for coefficient in polynomial.iter_mut() {
+        let here = *coefficient;
+        *coefficient = F::times(root, here) ^ below;
+        below = here;
     }
-    polynomial[used] = below;
-}
-
-// The sum of the syndromes, each times its weight.
-fn weighed_sum<F: Field>(weights: &[u8], syndromes: &[u8]) -> u8
-    requires { length weights.now ≤ length syndromes.now }
-    ensures { result ≡ weighed F.Field.field weights.now (λ j. slice_index syndromes.now j) 0 }
-{
-    let mut sum = 0;
-    for i in 0..weights.len() {
-        sum ^= F::times(weights[i], syndromes[i]);
-    }
-    sum
 }

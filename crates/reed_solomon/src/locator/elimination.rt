@@ -1,11 +1,23 @@
-// The elimination: each equation costs one vector.
+// The elimination: each equation costs one vector. An equation is the syndromes from its number on.
 ghost use Rattle.std.specs.Prelude.{◌≡◌, ℕ, ◌+◌, ◌<◌, ◌≤◌, length, slice_set};
 ghost use Rattle.rs_algebra.specs.Polynomials.{weighed, zeros};
 ghost use Rattle.reed_solomon.specs.Locating.{FirstOff, Solve, cleared, held, vector};
 
-use crate::locator::rows::{add_multiple, value};
+use crate::bounds::MOST_UNKNOWNS;
+use crate::linear::{add_multiple, weighed_sum};
 use crate::locator::vectors::Vectors;
 use field::Field;
+use std::array;
+
+// The unit vector of a place.
+fn unit(place: usize) -> [u8; MOST_UNKNOWNS]
+    requires { place < 9 }
+    ensures { result ≡ slice_set (zeros 9) place 1 }
+{
+    let mut vector = [0; MOST_UNKNOWNS];
+    vector[place] = 1;
+    vector
+}
 
 impl Vectors {
     // The unit vectors.
@@ -15,82 +27,67 @@ impl Vectors {
         ensures kept { result.kept ≡ width }
         ensures units { (i : ℕ) → i < width → vector result i ≡ slice_set (zeros width) i 1 }
     {
-        let mut rows = [[0; 9]; 9];
-        for i in 0..9usize {
-            rows[i][i] = 1;
-        }
         Vectors {
-            rows,
+            rows: array::from_fn(unit),
             width,
             kept: width,
         }
     }
 
     // What the equation gives at vector i.
-    fn value_of<F: Field>(&self, i: usize, syndromes: &[u8], equation: usize) -> u8
+    fn value_of<F: Field>(&self, i: usize, equation: &[u8]) -> u8
         requires i_bound { i < 9 }
-        requires width_in_bounds { equation + self.now.width ≤ length syndromes.now }
-        ensures { result ≡ weighed F.Field.field (vector self.now i) (held syndromes.now) equation }
+        requires width_in_bounds { self.now.width ≤ length equation.now }
+        ensures { result ≡ weighed F.Field.field (vector self.now i) (held equation.now) 0 }
     {
-        value::<F>(&self.rows[i][..self.width], syndromes, equation)
+        weighed_sum::<F>(&self.rows[i][..self.width], equation)
     }
 
     // The first vector that does not meet the equation.
-    fn pivot<F: Field>(&self, syndromes: &[u8], equation: usize) -> Option<usize>
-        requires { equation + self.now.width ≤ length syndromes.now }
-        ensures { FirstOff F.Field.field (held syndromes.now) equation self.now result }
+    fn pivot<F: Field>(&self, equation: &[u8]) -> Option<usize>
+        requires { self.now.width ≤ length equation.now }
+        ensures { FirstOff F.Field.field (held equation.now) 0 self.now result }
     {
-        for i in 0..self.kept {
-            if self.value_of::<F>(i, syndromes, equation) != 0 {
-                return Some(i);
-            }
-        }
-        None
+        (0..self.kept).find(|i| self.value_of::<F>(*i, equation) != 0)
     }
 
     // Adds to each of the vectors `from` to `to` - 1 so much of the pivot that it meets the equation.
-    fn eliminate<F: Field>(
-        &mut self,
-        from: usize,
-        to: usize,
-        pivot: &[u8],
-        syndromes: &[u8],
-        equation: usize,
-    )
+    fn eliminate<F: Field>(&mut self, from: usize, to: usize, pivot: &[u8], equation: &[u8])
         requires range { (from ≤ to) × (to ≤ self.old.kept) }
-        requires inside { equation + self.old.width ≤ length syndromes.now }
+        requires inside { self.old.width ≤ length equation.now }
         requires wide { length pivot.now ≡ self.old.width }
         requires long { (k : ℕ) → k < to → length (vector self.old k) ≡ self.old.width }
         ensures width { self.new.width ≡ self.old.width }
         ensures kept { self.new.kept ≡ self.old.kept }
         ensures before { (k : ℕ) → k < from → vector self.new k ≡ vector self.old k }
-        ensures cleared { (k : ℕ) → from ≤ k → k < to → vector self.new k ≡ cleared F.Field.field (held syndromes.now) equation pivot.now (vector self.old k) }
+        ensures cleared { (k : ℕ) → from ≤ k → k < to → vector self.new k ≡ cleared F.Field.field (held equation.now) 0 pivot.now (vector self.old k) }
     {
         let width = self.width;
-        let inverse = F::inverse(value::<F>(pivot, syndromes, equation));
+        let inverse = F::inverse(weighed_sum::<F>(pivot, equation));
         for i in from..to {
-            let factor = F::times(self.value_of::<F>(i, syndromes, equation), inverse);
+            let factor = F::times(self.value_of::<F>(i, equation), inverse);
             let mut row = self.rows[i];
             add_multiple::<F>(&mut row[..width], factor, pivot);
             self.rows[i] = row;
         }
     }
 
-    // Leaves one vector fewer, all of which meet this equation too.
-    pub(crate) fn meet<F: Field>(&mut self, syndromes: &[u8], equation: usize)
+    // Leaves one vector fewer, all of which meet the equation of this number too.
+    pub(crate) fn meet<F: Field>(&mut self, syndromes: &[u8], number: usize)
         requires some { 0 < self.old.kept }
-        requires inside { equation + self.old.width ≤ length syndromes.now }
-        requires met { Solve F.Field.field (held syndromes.now) equation self.old }
+        requires inside { number + self.old.width ≤ length syndromes.now }
+        requires met { Solve F.Field.field (held syndromes.now) number self.old }
         ensures width { self.new.width ≡ self.old.width }
         ensures kept { self.new.kept + 1 ≡ self.old.kept }
-        ensures met { Solve F.Field.field (held syndromes.now) (equation + 1) self.new }
+        ensures met { Solve F.Field.field (held syndromes.now) (number + 1) self.new }
     {
+        let equation = &syndromes[number..];
         let last = self.kept - 1;
         let width = self.width;
-        if let Some(p) = self.pivot::<F>(syndromes, equation) {
+        if let Some(p) = self.pivot::<F>(equation) {
             let pivot = self.rows[p];
             self.rows[p] = self.rows[last];
-            self.eliminate::<F>(p, last, &pivot[..width], syndromes, equation);
+            self.eliminate::<F>(p, last, &pivot[..width], equation);
         }
         self.kept = last;
     }

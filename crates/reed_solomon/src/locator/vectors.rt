@@ -1,10 +1,12 @@
 // The vectors of an elimination.
 ghost use Rattle.std.specs.Prelude.{◌≤◌};
 
+use crate::bounds::MOST_UNKNOWNS;
+
 // `kept` vectors of `width` coefficients each, at the front of the first rows.
 #[derive(Drop)]
 pub(crate) struct Vectors {
-    pub(crate) rows: [[u8; 9]; 9],
+    pub(crate) rows: [[u8; MOST_UNKNOWNS]; MOST_UNKNOWNS],
     pub(crate) width: usize,
     pub(crate) kept: usize,
     ghost fits: { width ≤ 9 },

@@ -1,11 +1,13 @@
 // The rows of products of one generator polynomial.
-ghost use Rattle.std.specs.Prelude.{◌≡◌, ◌+◌, ◌*◌, ◌/◌, ◌^◌, ◌≤◌, take, drop};
+ghost use Rattle.std.specs.Prelude.{◌≡◌, ◌+◌, ◌*◌, ◌/◌, ◌^◌, ◌≤◌};
 ghost use Rattle.field.specs.Binary.{octets};
 ghost use Rattle.rs_algebra.specs.Polynomials.{scaled};
 ghost use Rattle.reed_solomon.specs.Rows.{packed, RowsOf};
 
-use crate::generator::{MOST_COEFFICIENTS, generator_polynomial};
+use crate::bounds::MOST_COEFFICIENTS;
+use crate::generator::generator_polynomial;
 use field::{Field, Table};
+use std::array;
 
 // Moves the octets of a row down one place and puts another on top.
 fn put_on_top(octet: u8, row: u128) -> u128
@@ -14,27 +16,24 @@ fn put_on_top(octet: u8, row: u128) -> u128
     (octet as u128) << 120 | row >> 8
 }
 
-// The products of a factor and the polynomial's coefficients 1 to `check`, from the highest octet down.
-fn row(polynomial: &[u8; MOST_COEFFICIENTS], check: usize, factor: u8) -> u128
-    requires { check ≤ 16 }
-    ensures { result ≡ packed 16 (scaled octets factor (drop 1 (take (check + 1) polynomial.now))) }
+// The products of a factor and the coefficients, packed from the highest octet down.
+fn row(coefficients: &[u8], factor: u8) -> u128
+    ensures { result ≡ packed 16 (scaled octets factor coefficients.now) }
 {
-    let mut row = 0;
-    for k in (0..check).rev() {
-        row = put_on_top(Table::times(factor, polynomial[k + 1]), row);
-    }
-    row
+    coefficients.iter().rev().fold(
+        0,
+        |row, coefficient| put_on_top(Table::times(factor, *coefficient), row),
+    )
 }
 
-// The rows of the generator polynomial with `check` roots.
+// The rows of the generator polynomial with `check` roots: its coefficients but the first.
 pub(crate) fn all_rows(check: usize) -> [u128; 256]
     requires { check ≤ 16 }
     ensures { RowsOf check result }
 {
-    let polynomial = generator_polynomial::<Table>(check);
-    let mut rows = [0; 256];
-    for factor in 0..256usize {
-        rows[factor] = row(&polynomial, check, factor as u8);
-    }
-    rows
+    let mut room = [0; MOST_COEFFICIENTS];
+    let polynomial = &mut room[..=check];
+    generator_polynomial::<Table>(polynomial);
+    let coefficients = &polynomial[1..];
+    array::from_fn(|factor| row(coefficients, factor as u8))
 }

@@ -1,6 +1,9 @@
-use Rattle.std.proofs.Common.{length, get_or, ap, ◌∙◌}
+use Rattle.std.proofs.Common.{◌≡◌, ℕ, length, get_or, sym, ap, ◌∙◌, arith, length-take}
 use Rattle.std.proofs.lemmas.List.{take-replicate}
-use Rattle.rs_algebra.proofs.Lists.{zeros_read}
+use Rattle.std.proofs.lemmas.Bool.{false≢true}
+use Rattle.std.proofs.lemmas.Bool.Decides.{Decides-eqb}
+use Rattle.std.proofs.lemmas.Slice.Eq.{slice_eq-Decides}
+use Rattle.rs_algebra.proofs.Lists.{same_reads, zeros_read}
 use Rattle.reed_solomon.proofs.mending.explains.Goals as goal
 
 pub add_terms-requires : goal.add_terms-requires
@@ -13,3 +16,11 @@ add_terms-requires g c =
       elements = c.requires.elements;
       clear = λ j. ap (λ xs. get_or xs j 0) (take-replicate n 16 0 c.requires.most) ∙ zeros_read n j;
     }
+
+pub returns-clause-fails : goal.returns-clause-fails
+returns-clause-fails g c differ passes =
+    let sums = c.add_terms.new.sums in
+    let s = c.args.syndromes.now in
+    let long : length sums ≡ length s = omega (arith, length-take {A = ℕ}) in
+    let same = same_reads sums s long (λ j h. c.add_terms.ensures j h ∙ passes j (omega arith)) in
+    false≢true (sym differ ∙ (slice_eq-Decides Decides-eqb sums s c.eq.result c.eq.ensures).1 same)

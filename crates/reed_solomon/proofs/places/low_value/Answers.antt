@@ -1,27 +1,21 @@
-use Rattle.std.proofs.Common.{◌≡◌, ℕ, ◌+◌, ◌-◌, length, get_or, drop, sym, ap, ◌∙◌, arith}
+use Rattle.std.proofs.Common.{◌≡◌, List, ℕ, refl, ◌∙◌, fold, reverse, rules, tests}
 use lib.Bits.{bit_xor}
-use Rattle.std.proofs.lemmas.List.{drop_all}
+use Rattle.std.proofs.lemmas.Iterator.Adapters.{YieldsList-from_rev_slice}
+use Rattle.std.proofs.lemmas.Iterator.Consumers.{fold_from_yields_List}
+use Rattle.field.specs.Field.{Field}
 use Rattle.rs_algebra.specs.Polynomials.{low_at}
-use Rattle.rs_algebra.proofs.Steps.{low_next}
+use Rattle.reed_solomon.proofs.Folds.{fold-reverse}
 use Rattle.reed_solomon.proofs.places.low_value.Goals as goal
 
-pub loop-i-init : goal.loop-i-init
+low_folded : (f : Field) (x : ℕ) (l : List ℕ) → fold (λ a c. bit_xor c (f.times x a)) 0 (reverse l) ≡ low_at f l x
 unfolding low_at
-loop-i-init g c =
-    let l = c.args.polynomial.now in
-    sym (ap (λ p. low_at g.F.Field.field p c.args.x) (drop_all (length l) l (omega arith)))
-
-pub loop-i-preserved : goal.loop-i-preserved
-loop-i-preserved g c =
-    let f = g.F.Field.field in
-    let l = c.args.polynomial.now in
-    let x = c.args.x in
-    let i : ℕ = c.loop-i.i - 1 in
-    let up : c.loop-i.i ≡ i + 1 = omega arith in
-    ap (bit_xor (get_or l i 0)) (c.times.ensures ∙ ap (f.times x) (c.loop-i.invariant ∙ ap (λ n. low_at f (drop n l) x) up))
-    ∙ sym (low_next f g.met.F.Field.laws l i x (omega arith))
+low_folded f x = fold-reverse (λ a c. bit_xor c (f.times x a)) 0 (λ l. low_at f l x) refl (λ c l. refl)
 
 pub returns : goal.returns
 returns g c =
-    let none : c.loop-i.i ≡ 0 = omega arith in
-    c.loop-i.invariant ∙ ap (λ n. low_at g.F.Field.field (drop n c.args.polynomial.now) c.args.x) none
+    let f = g.F.Field.field in
+    let x = c.args.x in
+    let l = c.args.polynomial.now in
+    fold_from_yields_List _ (λ a c. bit_xor c (f.times x a)) 0 c.fold.result c.fold.ensures.ran (YieldsList-from_rev_slice l cc)
+    (λ a x b q k. search (rules, tests))
+    ∙ low_folded f x l

@@ -7,7 +7,7 @@ use Rattle.reed_solomon.proofs.locator.vectors.Vectors.eliminate.Goals as goal
 pub loop-i-init : goal.loop-i-init
 loop-i-init g c =
     let v = c.args.self.now in
-    (refl, refl, begun g.F.Field.field (held c.args.syndromes.now) c.args.equation v.width c.args.pivot.now c.args.from v.rows)
+    (refl, refl, begun g.F.Field.field (held c.args.equation.now) 0 v.width c.args.pivot.now c.args.from v.rows)
 
 pub slice_bounds-row-end : goal.slice_bounds-row-end
 slice_bounds-row-end g c =
@@ -24,15 +24,14 @@ pub loop-i-preserved : goal.loop-i-preserved
 loop-i-preserved g c =
     let nine : length c.loop-i.self.rows ≡ 9 = search rules in
     let f = g.F.Field.field in
-    let S = held c.args.syndromes.now in
-    let j = c.args.equation in
+    let S = held c.args.equation.now in
     let rows = c.loop-i.self.rows in
     let i = c.loop-i.i in (
       c.loop-i.invariant.0,
       c.loop-i.invariant.1,
-      more c.add_multiple.new.row c.loop-i.invariant.2 c.loop-i.auto.i (omega arith) c.add_multiple.auto.row
-          (made_clear f S j c.args.pivot.now (front c.args.self.now.width rows i) c.add_multiple.ensures c.times-factor.ensures
-          (c.value_of.ensures ∙ ap (λ w. weighed f (front w rows i) S j) c.loop-i.invariant.0) c.inverse-inverse.ensures c.value.ensures),
+      more c.add_multiple.new.list c.loop-i.invariant.2 c.loop-i.auto.i (omega arith) c.add_multiple.auto.list
+          (made_clear f S 0 c.args.pivot.now (front c.args.self.now.width rows i) c.add_multiple.ensures c.times-factor.ensures
+          (c.value_of.ensures ∙ ap (λ w. weighed f (front w rows i) S 0) c.loop-i.invariant.0) c.inverse-inverse.ensures c.weighed_sum.ensures),
     )
 
 pub returns : goal.returns

@@ -8,4 +8,4 @@ abbrev pub invariant-loop-i : goal.invariant-loop-i
 invariant-loop-i g l =
     (l.self.width ≡ l.initial.self.width)
     × (l.self.kept ≡ l.initial.self.kept)
-    × Clearing g.F.Field.field (held l.syndromes) l.equation l.width l.pivot l.from l.i l.initial.self.rows l.self.rows
+    × Clearing g.F.Field.field (held l.equation) 0 l.width l.pivot l.from l.i l.initial.self.rows l.self.rows

@@ -1,6 +1,0 @@
-use Rattle.reed_solomon.proofs.Combining.{Adding}
-use Rattle.reed_solomon.proofs.locator.rows.add_multiple.Given as goal
-
--- the numbers so far have their multiple
-abbrev pub invariant-loop-i : goal.invariant-loop-i
-invariant-loop-i g l = Adding g.F.Field.field l.factor l.initial.row l.other l.i l.row

@@ -1,0 +1,23 @@
+// Linear combinations over a field.
+ghost use Rattle.std.specs.Prelude.{◌≡◌, ◌≤◌, length, slice_index};
+ghost use Rattle.rs_algebra.specs.Polynomials.{plus, scaled, weighed};
+
+use field::Field;
+
+// The sum of the numbers at the front, each times its weight.
+pub(crate) fn weighed_sum<F: Field>(weights: &[u8], numbers: &[u8]) -> u8
+    requires { length weights.now ≤ length numbers.now }
+    ensures { result ≡ weighed F.Field.field weights.now (λ j. slice_index numbers.now j) 0 }
+{
+    weights.iter().zip(numbers).fold(0, |sum, (weight, number)| sum ^ F::times(*weight, *number))
+}
+
+// Adds `factor` times the other list.
+pub(crate) fn add_multiple<F: Field>(list: &mut [u8], factor: u8, other: &[u8])
+    requires { length list.old ≡ length other.now }
+    ensures { list.new ≡ plus list.old (scaled F.Field.field factor other.now) }
+{
+    for (i, number) in list.iter_mut().enumerate() {
+        *number ^= F::times(factor, other[i]);
+    }
+}
