@@ -19,6 +19,7 @@ pub mod rows;
 pub mod shifting;
 mod syndromes;
 pub mod table;
+mod terms;
 mod values;
 
 pub use reed_solomon::ReedSolomon;

@@ -12,7 +12,6 @@ add_terms-requires g c =
     record {
       fits = c.requires.fits;
       inside = c.requires.inside;
-      alike = c.requires.alike;
       elements = c.requires.elements;
       clear = λ j. ap (λ xs. get_or xs j 0) (take-replicate n 16 0 c.requires.most) ∙ zeros_read n j;
     }
