@@ -1,11 +1,11 @@
 -- The polynomial that vanishes at all places of a list but one, with zeros behind it, for loops. Assumes nothing.
-use Rattle.std.proofs.Common.{◌≡◌, ℕ, zero, suc, ◌+◌, ◌-◌, ◌<◌, ◌≤◌, ◌⊎◌, List, [], ◌∷◌, ◌++◌, length, get_or, take, set, sym, refl, ap, ◌∙◌, inl, inr, arith}
+use Rattle.std.proofs.Common.{◌≡◌, ℕ, zero, suc, ◌+◌, ◌-◌, ◌<◌, ◌≤◌, ◌⊎◌, List, [], ◌∷◌, ◌++◌, length, get_or, take, set, refl, ap, ◌∙◌, inl, inr, arith}
 use lib.Bits.{bit_xor}
 use Rattle.std.proofs.lemmas.List.{get_or-take, length-append, length-take-le, take_all, take_more}
 use Rattle.std.proofs.lemmas.Bool.{cases_lt}
 use Rattle.field.specs.Field.{Field, Laws}
 use Rattle.field.proofs.Facts.{times_zero}
-use Rattle.rs_algebra.specs.Polynomials.{Elements, times_root, weighed, low_at, zeros}
+use Rattle.rs_algebra.specs.Polynomials.{times_root, weighed, low_at, zeros}
 use Rattle.rs_algebra.specs.Words.{Missing, ValueFor, locator}
 use Rattle.rs_algebra.proofs.Lists.{append_elements, zeros_elements, zeros_long}
 use Rattle.rs_algebra.proofs.Values.{missing_none, missing_same, missing_more}

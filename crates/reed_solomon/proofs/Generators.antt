@@ -1,5 +1,5 @@
 -- The product by D + a in place. Assumes nothing.
-use Rattle.std.proofs.Common.{◌≡◌, ℕ, zero, suc, ◌+◌, ◌-◌, ◌<◌, ◌≤◌, List, [], ◌∷◌, ◌++◌, length, get_or, take, drop, set, sym, refl, ap, ◌∙◌, ap₂, arith}
+use Rattle.std.proofs.Common.{◌≡◌, ℕ, zero, suc, ◌+◌, ◌-◌, ◌<◌, List, [], ◌∷◌, ◌++◌, length, set, sym, ap, ◌∙◌, ap₂, arith}
 use lib.Bits.{bit_xor, xor_comm, xor_zero_r}
 use Rattle.field.specs.Field.{Field, Laws, power}
 use Rattle.field.proofs.Facts.{times_zero, times_one}

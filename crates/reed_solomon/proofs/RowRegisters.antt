@@ -1,15 +1,14 @@
 -- The register as one number, and the rows that feed it. Assumes nothing.
-use Rattle.std.proofs.Common.{◌≡◌, ℕ, ◌+◌, ◌-◌, ◌*◌, ◌/◌, ◌%◌, ◌^◌, ◌<◌, ◌≤◌, ◌⊎◌, List, [], ◌∷◌, ◌++◌, length, get_or, take, drop, set, sym, refl, ap, ◌∙◌, ap₂, inl, inr, fold, reverse, arith}
+use Rattle.std.proofs.Common.{◌≡◌, ℕ, ◌+◌, ◌*◌, ◌/◌, ◌%◌, ◌^◌, ◌<◌, ◌≤◌, ◌⊎◌, List, [], ◌∷◌, ◌++◌, length, get_or, take, drop, set, sym, refl, ap, ◌∙◌, ap₂, inl, inr, fold, reverse, arith}
 use lib.Bits.{bit_xor, xor_comm, xor_lt}
-use Rattle.std.proofs.lemmas.List.{drop_all, drop-drop, drop_more, get_or-drop, get_or-take, get_or-set_same, get_or-set_other, length-drop, length-set, take_all}
+use Rattle.std.proofs.lemmas.List.{drop-drop, get_or-drop, get_or-set_same, get_or-set_other, length-drop, length-set, take_all}
 use Rattle.std.proofs.lemmas.Bool.{cases_lt}
 use Rattle.coder.specs.Codes.{Octets}
 use Rattle.field.specs.Binary.{octets}
 use Rattle.field.specs.Octets.{octet_laws}
 use Rattle.rs_algebra.specs.Polynomials.{Elements, zeros, scaled, generator}
 use Rattle.rs_algebra.specs.Words.{register_step, register, check_of}
-use Rattle.rs_algebra.proofs.Lists.{same_reads, zeros_long, zeros_elements, scaled_long, scaled_elements, append_elements, drop_elements}
-use Rattle.rs_algebra.proofs.LowFirst.{scaled_reads}
+use Rattle.rs_algebra.proofs.Lists.{same_reads, zeros_long, zeros_elements, scaled_elements, append_elements, drop_elements}
 use Rattle.rs_algebra.proofs.Division.{lower_long}
 use Rattle.rs_algebra.proofs.Registers.{step_long, step_elements, register_none, register_next, check_register}
 use Rattle.reed_solomon.specs.Rows.{packed, RowsOf}

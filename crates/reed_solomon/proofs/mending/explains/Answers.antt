@@ -1,20 +1,9 @@
-use Rattle.std.proofs.Common.{◌≡◌, ℕ, length, get_or, sym, ap, ◌∙◌, arith, length-take}
-use Rattle.std.proofs.lemmas.List.{take-replicate}
+use Rattle.std.proofs.Common.{◌≡◌, ℕ, length, sym, ◌∙◌, arith, length-take}
 use Rattle.std.proofs.lemmas.Bool.{false≢true}
 use Rattle.std.proofs.lemmas.Bool.Decides.{Decides-eqb}
 use Rattle.std.proofs.lemmas.Slice.Eq.{slice_eq-Decides}
-use Rattle.rs_algebra.proofs.Lists.{same_reads, zeros_read}
+use Rattle.rs_algebra.proofs.Lists.{same_reads}
 use Rattle.reed_solomon.proofs.mending.explains.Goals as goal
-
-pub add_terms-requires : goal.add_terms-requires
-add_terms-requires g c =
-    let n = length c.args.syndromes.now in
-    record {
-      fits = c.requires.fits;
-      inside = c.requires.inside;
-      elements = c.requires.elements;
-      clear = λ j. ap (λ xs. get_or xs j 0) (take-replicate n 16 0 c.requires.most) ∙ zeros_read n j;
-    }
 
 pub returns-clause-fails : goal.returns-clause-fails
 returns-clause-fails g c differ passes =

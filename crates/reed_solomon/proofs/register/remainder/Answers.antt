@@ -1,5 +1,5 @@
-use Rattle.std.proofs.Common.{◌≡◌, ℕ, ◌+◌, ◌-◌, length, sym, subst, ap, ◌∙◌, arith, length-take}
-use Rattle.rs_algebra.specs.Polynomials.{zeros, generator}
+use Rattle.std.proofs.Common.{◌≡◌, ℕ, ◌-◌, length, sym, ap, ◌∙◌, arith, length-take}
+use Rattle.rs_algebra.specs.Polynomials.{generator}
 use Rattle.reed_solomon.proofs.Registers.{none_passed, one_passed, all_passed}
 use Rattle.reed_solomon.proofs.register.remainder.Goals as goal
 
@@ -13,15 +13,12 @@ loop-octet-preserved g c =
     one_passed g.F.Field.field g.met.F.Field.laws c.generator_polynomial.new.polynomial (length c.args.register.now) c.args.message.now
     c.loop-octet.octet-index c.loop-octet.register c.feed.new.register c.loop-octet-test.true c.loop-octet.invariant c.feed.ensures
 
-pub returns : goal.returns
-returns g c =
+pub returns-clause-check : goal.returns-clause-check
+returns-clause-check g c =
     let f = g.F.Field.field in
     let R = length c.args.register.now in
     let p = c.generator_polynomial.new.polynomial in
     let long : length p - 1 ≡ R = omega (arith, length-take {A = ℕ}) in
     let told : p ≡ generator f (length p - 1) = c.generator_polynomial.ensures ∙ ap (λ n. generator f (n - 1)) (sym c.generator_polynomial.auto.polynomial) in
-    record {
-      check = all_passed f g.met.F.Field.laws p R c.args.message.now c.loop-octet.octet-index c.loop-octet.register c.loop-octet-test.false
-          (told ∙ ap (generator f) long) c.loop-octet.invariant;
-      octets = λ k. (c.type_inv.message k).fits;
-    }
+    all_passed f g.met.F.Field.laws p R c.args.message.now c.loop-octet.octet-index c.loop-octet.register c.loop-octet-test.false
+    (told ∙ ap (generator f) long) c.loop-octet.invariant

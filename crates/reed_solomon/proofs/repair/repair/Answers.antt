@@ -1,4 +1,4 @@
-use Rattle.std.proofs.Common.{ℕ, take, arith, length-take}
+use Rattle.std.proofs.Common.{take, arith, length-take}
 use Rattle.std.proofs.lemmas.List.{length-map}
 use Rattle.reed_solomon.specs.declared.terms.Term.{Term}
 use Rattle.reed_solomon.specs.Repairs.{places_of, values_of}

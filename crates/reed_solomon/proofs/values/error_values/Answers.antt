@@ -31,17 +31,16 @@ loop-i-preserved g c =
           (filled_more P (values_of ts) i y.value (omega (arith, length-map ts (λ (t : Term). t.value))) c.loop-i.invariant.1 here),
     )
 
-pub returns : goal.returns
-returns g c =
+pub returns-clause-values : goal.returns-clause-values
+returns-clause-values g c i h = c.loop-i.invariant.1 i (omega (arith, length-map c.args.terms.now (λ (t : Term). t.place)))
+
+pub returns-clause-elements : goal.returns-clause-elements
+returns-clause-elements g c =
     let f = g.F.Field.field in
     let laws = g.met.F.Field.laws in
     let ws = places_of c.args.terms.now in
     let vs = values_of c.loop-i.terms in
     let S : ℕ → ℕ = λ j. get_or c.args.syndromes.now j 0 in
-    let places = length-map c.args.terms.now (λ (t : Term). t.place) in
-    let values = length-map c.loop-i.terms (λ (t : Term). t.value) in
-    record {
-      places = c.loop-i.invariant.0;
-      values = λ i h. c.loop-i.invariant.1 i (omega (arith, places));
-      elements = elements_within f laws vs (λ i h. value_element f laws c.args.word (get_or ws i 0) S ws (get_or vs i 0) (c.loop-i.invariant.1 i (omega (arith, values))));
-    }
+    elements_within f laws vs
+    (λ i h. value_element f laws c.args.word (get_or ws i 0) S ws (get_or vs i 0)
+    (c.loop-i.invariant.1 i (omega (arith, length-map c.loop-i.terms (λ (t : Term). t.value)))))

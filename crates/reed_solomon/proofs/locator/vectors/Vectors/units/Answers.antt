@@ -1,4 +1,4 @@
-use Rattle.std.proofs.Common.{◌≡◌, [], take, set, refl, ap, ◌∙◌, arith, rules, tests}
+use Rattle.std.proofs.Common.{◌≡◌, [], take, set, ap, ◌∙◌, arith, rules, tests}
 use Rattle.rs_algebra.specs.Polynomials.{zeros}
 use Rattle.reed_solomon.proofs.Clearing.{unit_front}
 use Rattle.reed_solomon.proofs.FromFn.{made}
