@@ -6,34 +6,32 @@ ghost use Rattle.rs_algebra.specs.Words.{mend, terms_at, weight};
 ghost use Rattle.reed_solomon.specs.Repairs.{Passes, places_of, values_of};
 
 use crate::decoding::MOST_CHECK;
-use crate::terms::Term;
+use crate::terms::{Pattern, Term};
 use field::Field;
 
-// Whether an error of these terms in a word of `word` octets has these syndromes.
-pub(crate) fn explains<F: Field>(syndromes: &[u8], word: usize, terms: &[Term]) -> bool
-    requires fits { word < F.Field.field.size }
-    requires inside { (i : ℕ) → i < length (places_of terms.now) → slice_index (places_of terms.now) i < word }
-    requires elements { Elements F.Field.field (values_of terms.now) }
+// Whether the error has these syndromes.
+pub(crate) fn explains<F: Field>(syndromes: &[u8], pattern: &Pattern) -> bool
+    requires fits { pattern.now.word < F.Field.field.size }
+    requires elements { Elements F.Field.field (values_of pattern.now.terms.now) }
     requires most { length syndromes.now ≤ 16 }
-    ensures passes { result ≡ true → Passes F.Field.field word (places_of terms.now) (values_of terms.now) syndromes.now }
-    ensures fails { result ≡ false → Passes F.Field.field word (places_of terms.now) (values_of terms.now) syndromes.now → ⊥ }
+    ensures passes { result ≡ true → Passes F.Field.field pattern.now.word (places_of pattern.now.terms.now) (values_of pattern.now.terms.now) syndromes.now }
+    ensures fails { result ≡ false → Passes F.Field.field pattern.now.word (places_of pattern.now.terms.now) (values_of pattern.now.terms.now) syndromes.now → ⊥ }
 {
     let mut room = [0; MOST_CHECK];
     let sums = &mut room[..syndromes.len()];
-    add_terms::<F>(word, terms, sums);
+    add_terms::<F>(pattern, sums);
     *sums == *syndromes
 }
 
-// Writes the syndromes of the error that these terms make: one running power for each term.
-fn add_terms<F: Field>(word: usize, terms: &[Term], sums: &mut [u8])
-    requires fits { word < F.Field.field.size }
-    requires inside { (i : ℕ) → i < length (places_of terms.now) → slice_index (places_of terms.now) i < word }
-    requires elements { Elements F.Field.field (values_of terms.now) }
+// Writes the syndromes of the error: one running power for each term.
+fn add_terms<F: Field>(pattern: &Pattern, sums: &mut [u8])
+    requires fits { pattern.now.word < F.Field.field.size }
+    requires elements { Elements F.Field.field (values_of pattern.now.terms.now) }
     requires clear { (j : ℕ) → slice_index sums.old j ≡ 0 }
-    ensures { (j : ℕ) → j < length sums.new → slice_index sums.new j ≡ terms_at F.Field.field word (places_of terms.now) (values_of terms.now) j }
+    ensures { (j : ℕ) → j < length sums.new → slice_index sums.new j ≡ terms_at F.Field.field pattern.now.word (places_of pattern.now.terms.now) (values_of pattern.now.terms.now) j }
 {
-    for term in terms {
-        let locator = F::power((word - 1 - term.place as usize) as u8);
+    for term in pattern.terms {
+        let locator = F::power((pattern.word - 1 - term.place as usize) as u8);
         add_term::<F>(term.value, locator, sums);
     }
 }

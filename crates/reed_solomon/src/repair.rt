@@ -7,7 +7,7 @@ ghost use Rattle.reed_solomon.specs.Repairs.{Repaired, RepairedAt, Valued, place
 use crate::bounds::MOST_REPAIRS;
 use crate::mending::{count_nonzero, explains, mend_message};
 use crate::places::root_places;
-use crate::terms::Term;
+use crate::terms::{Pattern, Term};
 use crate::values::error_values;
 use field::Field;
 
@@ -52,7 +52,11 @@ fn repair_at<F: Field>(
     ensures answer { RepairedAt F.Field.field received.now (places_of terms.old) (values_of terms.new) syndromes.now message.old message.new result }
 {
     error_values::<F>(syndromes, received.len(), terms);
-    if !explains::<F>(syndromes, received.len(), terms) {
+    let pattern = Pattern {
+        word: received.len(),
+        terms,
+    };
+    if !explains::<F>(syndromes, &pattern) {
         return None;
     }
     message.copy_from_slice(&received[..message.len()]);

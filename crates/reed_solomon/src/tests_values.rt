@@ -7,7 +7,7 @@ use crate::mending::{count_nonzero, explains, mend_message};
 use crate::places::{low_value, root_places};
 use crate::repair::repair;
 use crate::syndromes::syndromes;
-use crate::terms::Term;
+use crate::terms::{Pattern, Term};
 use crate::values::error_values;
 use field::Table;
 use std::array;
@@ -97,9 +97,10 @@ fn measures(rt: &impl Abort, word: usize, sums: &[u8], found: &mut [Term], terms
     error_values::<Table>(sums, word, found);
     assert!(rt; *found == *terms);
     assert_eq!(rt; count_nonzero(found), terms.len());
-    assert!(rt; explains::<Table>(sums, word, found));
+    let pattern = Pattern { word, terms: found };
+    assert!(rt; explains::<Table>(sums, &pattern));
     assert!(rt; sums.len() > 1);
-    assert!(rt; !explains::<Table>(&sums[1..], word, found));
+    assert!(rt; !explains::<Table>(&sums[1..], &pattern));
 }
 
 #[test]

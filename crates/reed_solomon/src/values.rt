@@ -7,7 +7,7 @@ ghost use Rattle.reed_solomon.specs.Repairs.{Valued, places_of, values_of};
 use crate::bounds::MOST_REPAIRS;
 use crate::linear::weighed_sum;
 use crate::places::low_value;
-use crate::terms::Term;
+use crate::terms::{Pattern, Term};
 use field::Field;
 
 // Sets the values that an error with these syndromes has if it is nowhere but at the terms' places of a word of `word` octets.
@@ -22,40 +22,42 @@ pub(crate) fn error_values<F: Field>(syndromes: &[u8], word: usize, terms: &mut 
 {
     // Stays by index: each value is found from the places of all terms, which a loop over `terms.iter_mut()` would hold.
     for i in 0..terms.len() {
-        let value = value_for::<F>(syndromes, word, terms, terms[i].place);
+        let pattern = Pattern { word, terms };
+        let value = value_for::<F>(syndromes, &pattern, terms[i].place);
         terms[i].value = value;
     }
 }
 
 // The value at one of the places: the syndromes weighed by a polynomial that vanishes at all the others, divided by its value here.
-fn value_for<F: Field>(syndromes: &[u8], word: usize, terms: &[Term], place: u8) -> u8
-    requires fits { word < F.Field.field.size }
-    requires inside { (i : ℕ) → i < length (places_of terms.now) → slice_index (places_of terms.now) i < word }
-    requires among { (i : ℕ) × (i < length (places_of terms.now)) × (slice_index (places_of terms.now) i ≡ place) }
-    requires most { length terms.now ≤ 8 }
-    requires enough { length terms.now ≤ length syndromes.now }
-    ensures { ValueFor F.Field.field word (λ j. slice_index syndromes.now j) (places_of terms.now) place result }
+fn value_for<F: Field>(syndromes: &[u8], pattern: &Pattern, place: u8) -> u8
+    requires fits { pattern.now.word < F.Field.field.size }
+    requires among { (i : ℕ) × (i < length (places_of pattern.now.terms.now)) × (slice_index (places_of pattern.now.terms.now) i ≡ place) }
+    requires most { length pattern.now.terms.now ≤ 8 }
+    requires enough { length pattern.now.terms.now ≤ length syndromes.now }
+    ensures { ValueFor F.Field.field pattern.now.word (λ j. slice_index syndromes.now j) (places_of pattern.now.terms.now) place result }
 {
     let mut room = [0; MOST_REPAIRS];
-    let polynomial = &mut room[..terms.len()];
-    vanishing_elsewhere::<F>(word, terms, place, polynomial);
-    let here = low_value::<F>(polynomial, F::power((word - 1 - place as usize) as u8));
+    let polynomial = &mut room[..pattern.terms.len()];
+    vanishing_elsewhere::<F>(pattern, place, polynomial);
+    let here = low_value::<F>(
+        polynomial,
+        F::power((pattern.word - 1 - place as usize) as u8),
+    );
     F::times(weighed_sum::<F>(polynomial, syndromes), F::inverse(here))
 }
 
 // Writes a polynomial, lowest power first, that vanishes at the locators of all the places but one.
-fn vanishing_elsewhere<F: Field>(word: usize, terms: &[Term], place: u8, polynomial: &mut [u8])
-    requires fits { word < F.Field.field.size }
-    requires inside { (i : ℕ) → i < length (places_of terms.now) → slice_index (places_of terms.now) i < word }
-    requires among { (i : ℕ) × (i < length (places_of terms.now)) × (slice_index (places_of terms.now) i ≡ place) }
-    requires room { length terms.now ≡ length polynomial.old }
-    ensures { Missing F.Field.field word place (places_of terms.now) polynomial.new }
+fn vanishing_elsewhere<F: Field>(pattern: &Pattern, place: u8, polynomial: &mut [u8])
+    requires fits { pattern.now.word < F.Field.field.size }
+    requires among { (i : ℕ) × (i < length (places_of pattern.now.terms.now)) × (slice_index (places_of pattern.now.terms.now) i ≡ place) }
+    requires room { length pattern.now.terms.now ≡ length polynomial.old }
+    ensures { Missing F.Field.field pattern.now.word place (places_of pattern.now.terms.now) polynomial.new }
 {
     polynomial.fill(0);
     polynomial[0] = 1;
-    for other in terms {
+    for other in pattern.terms {
         if other.place != place {
-            let locator = F::power((word - 1 - other.place as usize) as u8);
+            let locator = F::power((pattern.word - 1 - other.place as usize) as u8);
             times_root::<F>(polynomial, locator);
         }
     }

@@ -6,4 +6,4 @@ use Rattle.reed_solomon.proofs.mending.add_terms.Given as goal
 abbrev pub invariant-loop-term : goal.invariant-loop-term
 invariant-loop-term g l =
     (j : ℕ) → j < length l.initial.sums
-    → get_or l.sums j 0 ≡ terms_at g.F.Field.field l.word (take l.term-index (places_of l.initial.terms)) (take l.term-index (values_of l.initial.terms)) j
+    → get_or l.sums j 0 ≡ terms_at g.F.Field.field l.pattern.word (take l.term-index (places_of l.pattern.terms.now)) (take l.term-index (values_of l.pattern.terms.now)) j

@@ -5,4 +5,4 @@ use Rattle.reed_solomon.proofs.values.vanishing_elsewhere.Given as goal
 
 -- the polynomial for the places so far
 abbrev pub invariant-loop-other : goal.invariant-loop-other
-invariant-loop-other g l = Holding g.F.Field.field g.met.F.Field.laws l.word l.place (take l.other-index (places_of l.initial.terms)) l.polynomial
+invariant-loop-other g l = Holding g.F.Field.field g.met.F.Field.laws l.pattern.word l.place (take l.other-index (places_of l.pattern.terms.now)) l.polynomial
