@@ -6,33 +6,36 @@ ghost use Rattle.rs_algebra.specs.Words.{mend, terms_at, weight};
 ghost use Rattle.reed_solomon.specs.Repairs.{Passes, places_of, values_of};
 
 use crate::decoding::MOST_CHECK;
+use crate::places::place_locator;
 use crate::terms::{Pattern, Term};
 use field::Field;
 
-// Whether the error has these syndromes.
-pub(crate) fn explains<F: Field>(syndromes: &[u8], pattern: &Pattern) -> bool
-    requires fits { pattern.now.word < F.Field.field.size }
-    requires elements { Elements F.Field.field (values_of pattern.now.terms.now) }
-    requires most { length syndromes.now ≤ 16 }
-    ensures passes { result ≡ true → Passes F.Field.field pattern.now.word (places_of pattern.now.terms.now) (values_of pattern.now.terms.now) syndromes.now }
-    ensures fails { result ≡ false → Passes F.Field.field pattern.now.word (places_of pattern.now.terms.now) (values_of pattern.now.terms.now) syndromes.now → ⊥ }
-{
-    let mut room = [0; MOST_CHECK];
-    let sums = &mut room[..syndromes.len()];
-    add_terms::<F>(pattern, sums);
-    *sums == *syndromes
-}
+impl Pattern<'_> {
+    // Whether the error has these syndromes.
+    pub(crate) fn explains<F: Field>(&self, syndromes: &[u8]) -> bool
+        requires fits { self.now.word < F.Field.field.size }
+        requires elements { Elements F.Field.field (values_of self.now.terms.now) }
+        requires most { length syndromes.now ≤ 16 }
+        ensures passes { result ≡ true → Passes F.Field.field self.now.word (places_of self.now.terms.now) (values_of self.now.terms.now) syndromes.now }
+        ensures fails { result ≡ false → Passes F.Field.field self.now.word (places_of self.now.terms.now) (values_of self.now.terms.now) syndromes.now → ⊥ }
+    {
+        let mut room = [0; MOST_CHECK];
+        let sums = &mut room[..syndromes.len()];
+        self.add_terms::<F>(sums);
+        *sums == *syndromes
+    }
 
-// Writes the syndromes of the error: one running power for each term.
-fn add_terms<F: Field>(pattern: &Pattern, sums: &mut [u8])
-    requires fits { pattern.now.word < F.Field.field.size }
-    requires elements { Elements F.Field.field (values_of pattern.now.terms.now) }
-    requires clear { (j : ℕ) → slice_index sums.old j ≡ 0 }
-    ensures { (j : ℕ) → j < length sums.new → slice_index sums.new j ≡ terms_at F.Field.field pattern.now.word (places_of pattern.now.terms.now) (values_of pattern.now.terms.now) j }
-{
-    for term in pattern.terms {
-        let locator = F::power((pattern.word - 1 - term.place as usize) as u8);
-        add_term::<F>(term.value, locator, sums);
+    // Writes the syndromes of the error: one running power for each term.
+    fn add_terms<F: Field>(&self, sums: &mut [u8])
+        requires fits { self.now.word < F.Field.field.size }
+        requires elements { Elements F.Field.field (values_of self.now.terms.now) }
+        requires clear { (j : ℕ) → slice_index sums.old j ≡ 0 }
+        ensures { (j : ℕ) → j < length sums.new → slice_index sums.new j ≡ terms_at F.Field.field self.now.word (places_of self.now.terms.now) (values_of self.now.terms.now) j }
+    {
+        for term in self.terms {
+            let locator = place_locator::<F>(self.word, term.place as usize);
+            add_term::<F>(term.value, locator, sums);
+        }
     }
 }
 
@@ -54,6 +57,7 @@ pub(crate) fn mend_message(message: &mut [u8], terms: &[Term])
 {
     for term in terms {
         let place = term.place as usize;
+        // Stays by index: of what is written through `get_mut` a proof knows nothing.
         if place < message.len() {
             message[place] ^= term.value;
         }

@@ -1,7 +1,7 @@
 // The places of a word that a locator polynomial names.
 ghost use Rattle.std.specs.Prelude.{◌≡◌, ℕ, ◌+◌, ◌<◌, ◌≤◌, length, take, slice_index};
 ghost use Rattle.rs_algebra.specs.Polynomials.{Elements, low_at};
-ghost use Rattle.rs_algebra.specs.Words.{Places};
+ghost use Rattle.rs_algebra.specs.Words.{Places, locator};
 ghost use Rattle.reed_solomon.specs.Repairs.{places_of};
 ghost use Rattle.reed_solomon.specs.Roots.{RootPlaces};
 
@@ -20,9 +20,10 @@ pub(crate) fn root_places<F: Field>(locator: &[u8], word: usize, terms: &mut [Te
     ensures roots { RootPlaces F.Field.field word locator.now word (places_of (take result terms.new)) }
     ensures places { Places word (places_of (take result terms.new)) }
 {
+    // Stays with a count: of what is written through an adapter of `iter_mut` a proof knows nothing, and `collect` needs a heap.
     let mut count = 0;
     for place in 0..word {
-        if low_value::<F>(locator, F::power((word - 1 - place) as u8)) == 0 {
+        if low_value::<F>(locator, place_locator::<F>(word, place)) == 0 {
             terms[count] = Term {
                 place: place as u8,
                 value: 0,
@@ -31,6 +32,15 @@ pub(crate) fn root_places<F: Field>(locator: &[u8], word: usize, terms: &mut [Te
         }
     }
     count
+}
+
+// The locator of a place of a word of `word` octets.
+pub(crate) fn place_locator<F: Field>(word: usize, place: usize) -> u8
+    requires fits { word < F.Field.field.size }
+    requires inside { place < word }
+    ensures { result ≡ locator F.Field.field word place }
+{
+    F::power((word - 1 - place) as u8)
 }
 
 // The value of a polynomial, lowest power first.

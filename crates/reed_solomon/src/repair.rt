@@ -5,7 +5,7 @@ ghost use Rattle.rs_algebra.specs.Words.{Places};
 ghost use Rattle.reed_solomon.specs.Repairs.{Repaired, RepairedAt, Valued, places_of, values_of};
 
 use crate::bounds::MOST_REPAIRS;
-use crate::mending::{count_nonzero, explains, mend_message};
+use crate::mending::{count_nonzero, mend_message};
 use crate::places::root_places;
 use crate::terms::{Pattern, Term};
 use crate::values::error_values;
@@ -56,7 +56,7 @@ fn repair_at<F: Field>(
         word: received.len(),
         terms,
     };
-    if !explains::<F>(syndromes, &pattern) {
+    if !pattern.explains::<F>(syndromes) {
         return None;
     }
     message.copy_from_slice(&received[..message.len()]);

@@ -3,7 +3,7 @@ ghost use Rattle.std.specs.Prelude.{◌+◌, ◌<◌, ◌≤◌, length, slice_i
 ghost use Rattle.rs_algebra.specs.Words.{Places};
 ghost use Rattle.reed_solomon.specs.Repairs.{places_of};
 
-use crate::mending::{count_nonzero, explains, mend_message};
+use crate::mending::{count_nonzero, mend_message};
 use crate::places::{low_value, root_places};
 use crate::repair::repair;
 use crate::syndromes::syndromes;
@@ -98,9 +98,9 @@ fn measures(rt: &impl Abort, word: usize, sums: &[u8], found: &mut [Term], terms
     assert!(rt; *found == *terms);
     assert_eq!(rt; count_nonzero(found), terms.len());
     let pattern = Pattern { word, terms: found };
-    assert!(rt; explains::<Table>(sums, &pattern));
+    assert!(rt; pattern.explains::<Table>(sums));
     assert!(rt; sums.len() > 1);
-    assert!(rt; !explains::<Table>(&sums[1..], &pattern));
+    assert!(rt; !pattern.explains::<Table>(&sums[1..]));
 }
 
 #[test]

@@ -6,7 +6,7 @@ ghost use Rattle.reed_solomon.specs.Repairs.{Valued, places_of, values_of};
 
 use crate::bounds::MOST_REPAIRS;
 use crate::linear::weighed_sum;
-use crate::places::low_value;
+use crate::places::{low_value, place_locator};
 use crate::terms::{Pattern, Term};
 use field::Field;
 
@@ -20,45 +20,44 @@ pub(crate) fn error_values<F: Field>(syndromes: &[u8], word: usize, terms: &mut 
     ensures values { Valued F.Field.field word syndromes.now (places_of terms.old) (values_of terms.new) }
     ensures elements { Elements F.Field.field (values_of terms.new) }
 {
-    // Stays by index: each value is found from the places of all terms, which a loop over `terms.iter_mut()` would hold.
+    // Stays by index: each value is found from the places of all terms, which `terms.iter_mut()` would hold borrowed.
     for i in 0..terms.len() {
         let pattern = Pattern { word, terms };
-        let value = value_for::<F>(syndromes, &pattern, terms[i].place);
+        let value = pattern.value_at::<F>(syndromes, terms[i].place);
         terms[i].value = value;
     }
 }
 
-// The value at one of the places: the syndromes weighed by a polynomial that vanishes at all the others, divided by its value here.
-fn value_for<F: Field>(syndromes: &[u8], pattern: &Pattern, place: u8) -> u8
-    requires fits { pattern.now.word < F.Field.field.size }
-    requires among { (i : ℕ) × (i < length (places_of pattern.now.terms.now)) × (slice_index (places_of pattern.now.terms.now) i ≡ place) }
-    requires most { length pattern.now.terms.now ≤ 8 }
-    requires enough { length pattern.now.terms.now ≤ length syndromes.now }
-    ensures { ValueFor F.Field.field pattern.now.word (λ j. slice_index syndromes.now j) (places_of pattern.now.terms.now) place result }
-{
-    let mut room = [0; MOST_REPAIRS];
-    let polynomial = &mut room[..pattern.terms.len()];
-    vanishing_elsewhere::<F>(pattern, place, polynomial);
-    let here = low_value::<F>(
-        polynomial,
-        F::power((pattern.word - 1 - place as usize) as u8),
-    );
-    F::times(weighed_sum::<F>(polynomial, syndromes), F::inverse(here))
-}
+impl Pattern<'_> {
+    // The value at one of the places: the syndromes weighed by a polynomial that vanishes at all the others, divided by its value here.
+    fn value_at<F: Field>(&self, syndromes: &[u8], place: u8) -> u8
+        requires fits { self.now.word < F.Field.field.size }
+        requires among { (i : ℕ) × (i < length (places_of self.now.terms.now)) × (slice_index (places_of self.now.terms.now) i ≡ place) }
+        requires most { length self.now.terms.now ≤ 8 }
+        requires enough { length self.now.terms.now ≤ length syndromes.now }
+        ensures { ValueFor F.Field.field self.now.word (λ j. slice_index syndromes.now j) (places_of self.now.terms.now) place result }
+    {
+        let mut room = [0; MOST_REPAIRS];
+        let polynomial = &mut room[..self.terms.len()];
+        self.vanishing_elsewhere::<F>(place, polynomial);
+        let here = low_value::<F>(polynomial, place_locator::<F>(self.word, place as usize));
+        F::times(weighed_sum::<F>(polynomial, syndromes), F::inverse(here))
+    }
 
-// Writes a polynomial, lowest power first, that vanishes at the locators of all the places but one.
-fn vanishing_elsewhere<F: Field>(pattern: &Pattern, place: u8, polynomial: &mut [u8])
-    requires fits { pattern.now.word < F.Field.field.size }
-    requires among { (i : ℕ) × (i < length (places_of pattern.now.terms.now)) × (slice_index (places_of pattern.now.terms.now) i ≡ place) }
-    requires room { length pattern.now.terms.now ≡ length polynomial.old }
-    ensures { Missing F.Field.field pattern.now.word place (places_of pattern.now.terms.now) polynomial.new }
-{
-    polynomial.fill(0);
-    polynomial[0] = 1;
-    for other in pattern.terms {
-        if other.place != place {
-            let locator = F::power((pattern.word - 1 - other.place as usize) as u8);
-            times_root::<F>(polynomial, locator);
+    // Writes a polynomial, lowest power first, that vanishes at the locators of all the places but one.
+    fn vanishing_elsewhere<F: Field>(&self, place: u8, polynomial: &mut [u8])
+        requires fits { self.now.word < F.Field.field.size }
+        requires among { (i : ℕ) × (i < length (places_of self.now.terms.now)) × (slice_index (places_of self.now.terms.now) i ≡ place) }
+        requires room { length self.now.terms.now ≡ length polynomial.old }
+        ensures { Missing F.Field.field self.now.word place (places_of self.now.terms.now) polynomial.new }
+    {
+        polynomial.fill(0);
+        polynomial[0] = 1;
+        for other in self.terms {
+            if other.place != place {
+                let locator = place_locator::<F>(self.word, other.place as usize);
+                times_root::<F>(polynomial, locator);
+            }
         }
     }
 }

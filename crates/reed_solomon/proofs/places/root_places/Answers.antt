@@ -16,7 +16,7 @@ bounds-terms-count g c =
     let ts = c.loop-place.terms in
     let many = length-map ts (λ (t : Term). t.place) in
     let value : low_at f l (locator f c.args.word c.loop-place.place) ≡ c.low_value.result
-    = ap (low_at f l) (sym c.power.ensures) ∙ sym c.low_value.ensures in
+    = ap (low_at f l) (sym c.place_locator.ensures) ∙ sym c.low_value.ensures in
     let more
     = found_more f c.args.word l g.met.F.Field.laws c.requires.some.0 c.requires.fits c.requires.elements c.requires.some.1
     c.loop-place.place c.loop-place.count (places_of ts) (omega (arith, c.loop-place.invariant.0, many)) c.loop-place.invariant.1
@@ -36,7 +36,7 @@ loop-place-preserved g c =
     let long : count ≤ length xs = omega (arith, c.loop-place.invariant.0, many) in
     let room : length l ≤ length xs + 1 = omega (arith, c.requires.room, many) in
     let inside : n < N = omega arith in
-    let value : low_at f l (locator f N n) ≡ c.low_value.result = ap (low_at f l) (sym c.power.ensures) ∙ sym c.low_value.ensures in
+    let value : low_at f l (locator f N n) ≡ c.low_value.result = ap (low_at f l) (sym c.place_locator.ensures) ∙ sym c.low_value.ensures in
     elim c.if-low_value-eq0.branch [
       | then-low_value-eq0 w ↦
           let root : low_at f l (locator f N n) ≡ 0 = value ∙ w.if-low_value-eq0.true in

@@ -20,9 +20,9 @@ loop-i-preserved g c =
     let S : ℕ → ℕ = λ j. get_or c.args.syndromes.now j 0 in
     let inside : i < length ts = omega arith in
     let t : Term = get_or ts i none in
-    let y : Term = record { place = t.place; value = c.value_for-value.result } in
+    let y : Term = record { place = t.place; value = c.value_at-value.result } in
     let at : t.place ≡ get_or ws i 0 = sym (place_at ts i inside) ∙ ap (λ xs. get_or xs i 0) c.loop-i.invariant.0 in
-    let found : ValueFor f N S (places_of ts) t.place y.value = c.value_for-value.ensures in
+    let found : ValueFor f N S (places_of ts) t.place y.value = c.value_at-value.ensures in
     let same : places_of (set ts i y) ≡ ws = map-set_same (λ (t : Term). t.place) ts i y none refl ∙ c.loop-i.invariant.0 in
     let P : ℕ → ℕ → Type 0 = λ i value. ValueFor f N S ws (get_or ws i 0) value in
     let here : P i y.value = subst (λ k. ValueFor f N S ws k y.value) at (subst (λ (xs : List ℕ). ValueFor f N S xs t.place y.value) c.loop-i.invariant.0 found) in (

@@ -3,7 +3,7 @@ use Rattle.std.proofs.lemmas.Bool.{false≢true}
 use Rattle.std.proofs.lemmas.Bool.Decides.{Decides-eqb}
 use Rattle.std.proofs.lemmas.Slice.Eq.{slice_eq-Decides}
 use Rattle.rs_algebra.proofs.Lists.{same_reads}
-use Rattle.reed_solomon.proofs.mending.explains.Goals as goal
+use Rattle.reed_solomon.proofs.terms.Pattern.explains.Goals as goal
 
 pub returns-clause-fails : goal.returns-clause-fails
 returns-clause-fails g c differ passes =
