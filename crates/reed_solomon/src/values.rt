@@ -11,6 +11,7 @@ use crate::terms::{Pattern, Term};
 use field::Field;
 
 // Sets the values that an error with these syndromes has if it is nowhere but at the terms' places of a word of `word` octets.
+// Stays with `word` beside the terms: a pattern lends its terms, and here they are written.
 pub(crate) fn error_values<F: Field>(syndromes: &[u8], word: usize, terms: &mut [Term])
     requires fits { word < F.Field.field.size }
     requires places { Places word (places_of terms.old) }
@@ -63,6 +64,7 @@ impl Pattern<'_> {
 }
 
 // Multiplies by x + root, in place: lowest power first, with room behind the last coefficient.
+// Stays beside the generator's `add_root`: there the highest power comes first, and the other of two coefficients is multiplied.
 fn times_root<F: Field>(polynomial: &mut [u8], root: u8)
     ensures { (p : List ℕ) (n : ℕ) → polynomial.old ≡ p ++ zeros (n + 1) → polynomial.new ≡ times_root F.Field.field root p ++ zeros n }
 {
