@@ -58,21 +58,14 @@ impl Vectors {
         }
     }
 
-    // What the equation gives at vector i.
-    fn value_of<F: Field>(&self, i: usize, equation: &[u8]) -> u8
-        requires i_bound { i < 9 }
-        requires width_in_bounds { self.now.width ≤ length equation.now }
-        ensures { result ≡ weighed F.Field.field (vector self.now i) (held equation.now) 0 }
-    {
-        weighed_sum::<F>(&self.rows[i][..self.width], equation)
-    }
-
     // The first vector that does not meet the equation.
     fn pivot<F: Field>(&self, equation: &[u8]) -> Option<usize>
         requires { self.now.width ≤ length equation.now }
         ensures { FirstOff F.Field.field (held equation.now) 0 self.now result }
     {
-        (0..self.kept).find(|i| self.value_of::<F>(*i, equation) != 0)
+        self.rows[..self.kept]
+            .iter()
+            .position(|row| weighed_sum::<F>(&row[..self.width], equation) != 0)
     }
 
     // Leaves one vector fewer, all of which meet the equation of this number too.
