@@ -9,14 +9,6 @@ use Rattle.rs_algebra.proofs.Terms.{places_few}
 use Rattle.reed_solomon.specs.Roots.{RootPlaces}
 
 module _ (f : Field) (N : ℕ) (l : List ℕ) where
-  pub rooted_none : RootPlaces f N l 0 []
-  rooted_none = record {
-    inside = λ i h. absurd (omega arith);
-    rising = λ i j h k. absurd (omega arith);
-    roots = λ i h. absurd (omega arith);
-    all = λ k h z. absurd (omega arith);
-  }
-
   module _ (n : ℕ) (ws : List ℕ) (r : RootPlaces f N l n ws) where
     pub rooted_same : 0 < low_at f l (locator f N n) → RootPlaces f N l (n + 1) ws
     rooted_same some = record {

@@ -1,10 +1,18 @@
 -- What is found from syndromes and a locator polynomial, and what it repairs. Assumes nothing.
-use Rattle.std.specs.Prelude.{◌≡◌, ℕ, ◌<◌, List, length, take, Some, None, Option, slice_index}
+use Rattle.std.specs.Prelude.{◌≡◌, ℕ, ◌<◌, List, length, map, take, Some, None, Option, slice_index}
 use Prim.{⊥}
 use Rattle.field.specs.Field.{Field}
 use Rattle.rs_algebra.specs.Polynomials.{Elements}
 use Rattle.rs_algebra.specs.Words.{ValueFor, mend, terms_at, weight}
 use Rattle.reed_solomon.specs.Roots.{RootPlaces}
+use Rattle.reed_solomon.specs.declared.terms.Term.{Term}
+
+-- the places and the values of terms
+abbrev pub places_of : List Term → List ℕ
+places_of ts = map (λ (t : Term). t.place) ts
+
+abbrev pub values_of : List Term → List ℕ
+values_of ts = map (λ (t : Term). t.value) ts
 
 -- the values vs are those that the syndromes s give for the places ws of a word of N octets
 abbrev pub Valued : (f : Field) (N : ℕ) (s ws vs : List ℕ) → Type 0

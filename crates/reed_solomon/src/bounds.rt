@@ -1,5 +1,5 @@
 // The lengths of the longest lists: all follow from how many octets of a word may be check octets.
-use crate::decoding::MOST_CHECK;
+use coder::sizes::MOST_CHECK;
 
 // Coefficients of a generator polynomial.
 pub(crate) const MOST_COEFFICIENTS: usize = MOST_CHECK + 1;

@@ -14,9 +14,8 @@ use crate::locator::locator;
 use crate::repair::repair;
 use crate::syndromes::syndromes;
 use coder::Undecoded;
+use coder::sizes::MOST_CHECK;
 use field::Field;
-
-pub(crate) const MOST_CHECK: usize = 16;
 
 // Whether all octets are 0.
 fn is_zero(octets: &[u8]) -> bool

@@ -18,6 +18,7 @@ mod register;
 mod repair;
 pub mod rows;
 mod syndromes;
+mod terms;
 mod values;
 
 pub use reed_solomon::ReedSolomon;

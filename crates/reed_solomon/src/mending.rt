@@ -3,44 +3,39 @@ ghost use Rattle.std.specs.Prelude.{◌≡◌, ℕ, ◌<◌, ◌≤◌, true, fa
 ghost use Rattle.field.specs.Field.{raised};
 ghost use Rattle.rs_algebra.specs.Polynomials.{Elements};
 ghost use Rattle.rs_algebra.specs.Words.{mend, terms_at, weight};
-ghost use Rattle.reed_solomon.specs.Repairs.{Passes};
+ghost use Rattle.reed_solomon.specs.Repairs.{Passes, places_of, values_of};
 
-use crate::decoding::MOST_CHECK;
+use crate::places::place_locator;
+use crate::terms::{Pattern, Term};
+use coder::sizes::MOST_CHECK;
 use field::Field;
 
-// Whether an error with these values at these places of a word of `word` octets has these syndromes.
-pub(crate) fn explains<F: Field>(
-    syndromes: &[u8],
-    word: usize,
-    places: &[u8],
-    values: &[u8],
-) -> bool
-    requires fits { word < F.Field.field.size }
-    requires inside { (i : ℕ) → i < length places.now → slice_index places.now i < word }
-    requires alike { length places.now ≡ length values.now }
-    requires elements { Elements F.Field.field values.now }
-    requires most { length syndromes.now ≤ 16 }
-    ensures passes { result ≡ true → Passes F.Field.field word places.now values.now syndromes.now }
-    ensures fails { result ≡ false → Passes F.Field.field word places.now values.now syndromes.now → ⊥ }
-{
-    let mut room = [0; MOST_CHECK];
-    let sums = &mut room[..syndromes.len()];
-    add_terms::<F>(word, places, values, sums);
-    *sums == *syndromes
-}
+impl Pattern<'_> {
+    // Whether the error has these syndromes.
+    pub(crate) fn explains<F: Field>(&self, syndromes: &[u8]) -> bool
+        requires fits { self.now.word < F.Field.field.size }
+        requires elements { Elements F.Field.field (values_of self.now.terms.now) }
+        requires most { length syndromes.now ≤ 16 }
+        ensures passes { result ≡ true → Passes F.Field.field self.now.word (places_of self.now.terms.now) (values_of self.now.terms.now) syndromes.now }
+        ensures fails { result ≡ false → Passes F.Field.field self.now.word (places_of self.now.terms.now) (values_of self.now.terms.now) syndromes.now → ⊥ }
+    {
+        let mut room = [0; MOST_CHECK];
+        let sums = &mut room[..syndromes.len()];
+        self.add_terms::<F>(sums);
+        *sums == *syndromes
+    }
 
-// Writes the syndromes of the error that these terms make: one running power for each term.
-fn add_terms<F: Field>(word: usize, places: &[u8], values: &[u8], sums: &mut [u8])
-    requires fits { word < F.Field.field.size }
-    requires inside { (i : ℕ) → i < length places.now → slice_index places.now i < word }
-    requires alike { length places.now ≡ length values.now }
-    requires elements { Elements F.Field.field values.now }
-    requires clear { (j : ℕ) → slice_index sums.old j ≡ 0 }
-    ensures { (j : ℕ) → j < length sums.new → slice_index sums.new j ≡ terms_at F.Field.field word places.now values.now j }
-{
-    for i in 0..places.len() {
-        let locator = F::power((word - 1 - places[i] as usize) as u8);
-        add_term::<F>(values[i], locator, sums);
+    // Writes the syndromes of the error: one running power for each term.
+    fn add_terms<F: Field>(&self, sums: &mut [u8])
+        requires fits { self.now.word < F.Field.field.size }
+        requires elements { Elements F.Field.field (values_of self.now.terms.now) }
+        requires clear { (j : ℕ) → slice_index sums.old j ≡ 0 }
+        ensures { (j : ℕ) → j < length sums.new → slice_index sums.new j ≡ terms_at F.Field.field self.now.word (places_of self.now.terms.now) (values_of self.now.terms.now) j }
+    {
+        for term in self.terms {
+            let locator = place_locator::<F>(self.word, term.place as usize);
+            add_term::<F>(term.value, locator, sums);
+        }
     }
 }
 
@@ -57,22 +52,22 @@ fn add_term<F: Field>(value: u8, x: u8, sums: &mut [u8])
 }
 
 // Adds the values at the places. A place behind the end, where a word's check octets are, is passed over.
-pub(crate) fn mend_message(message: &mut [u8], places: &[u8], values: &[u8])
-    requires { length places.now ≡ length values.now }
-    ensures { message.new ≡ mend message.old places.now values.now }
+pub(crate) fn mend_message(message: &mut [u8], terms: &[Term])
+    ensures { message.new ≡ mend message.old (places_of terms.now) (values_of terms.now) }
 {
-    for i in 0..places.len() {
-        let place = places[i] as usize;
+    for term in terms {
+        let place = term.place as usize;
+        // Stays by index: of what is written through `get_mut` a proof knows nothing.
         if place < message.len() {
-            message[place] ^= values[i];
+            message[place] ^= term.value;
         }
     }
 }
 
-// How many of the values are not 0.
+// How many of the terms have a value that is not 0.
 #[tactic(auto, using(crate::proofs::OneMore::weight_counted))]
-pub(crate) fn count_nonzero(values: &[u8]) -> usize
-    ensures { result ≡ weight values.now }
+pub(crate) fn count_nonzero(terms: &[Term]) -> usize
+    ensures { result ≡ weight (values_of terms.now) }
 {
-    values.iter().filter(|value| **value != 0).count()
+    terms.iter().filter(|term| term.value != 0).count()
 }

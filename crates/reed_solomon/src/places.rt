@@ -1,31 +1,46 @@
 // The places of a word that a locator polynomial names.
 ghost use Rattle.std.specs.Prelude.{◌≡◌, ℕ, ◌+◌, ◌<◌, ◌≤◌, length, take, slice_index};
 ghost use Rattle.rs_algebra.specs.Polynomials.{Elements, low_at};
-ghost use Rattle.rs_algebra.specs.Words.{Places};
+ghost use Rattle.rs_algebra.specs.Words.{Places, locator};
+ghost use Rattle.reed_solomon.specs.Repairs.{places_of};
 ghost use Rattle.reed_solomon.specs.Roots.{RootPlaces};
 
+use crate::terms::Term;
 use field::Field;
 
 // The places of a word of `word` octets at whose locators a polynomial, lowest power first and not 0, vanishes: they fill the
-// front of `places`, in rising order. Returns how many there are.
-pub(crate) fn root_places<F: Field>(locator: &[u8], word: usize, places: &mut [u8]) -> usize
+// front of `terms`, in rising order, with no values yet. Returns how many there are.
+pub(crate) fn root_places<F: Field>(locator: &[u8], word: usize, terms: &mut [Term]) -> usize
     requires fits { word < F.Field.field.size }
     requires elements { Elements F.Field.field locator.now }
     requires some { (i : ℕ) × (0 < slice_index locator.now i) }
-    requires room { length locator.now ≤ length places.old + 1 }
+    requires room { length locator.now ≤ length terms.old + 1 }
     ensures few { result < length locator.now }
-    ensures long { length (take result places.new) ≡ result }
-    ensures roots { RootPlaces F.Field.field word locator.now word (take result places.new) }
-    ensures places { Places word (take result places.new) }
+    ensures long { result ≤ length terms.new }
+    ensures roots { RootPlaces F.Field.field word locator.now word (places_of (take result terms.new)) }
+    ensures places { Places word (places_of (take result terms.new)) }
 {
+    // Stays with a count: of what is written through an adapter of `iter_mut` a proof knows nothing, and `collect` needs a heap.
     let mut count = 0;
     for place in 0..word {
-        if low_value::<F>(locator, F::power((word - 1 - place) as u8)) == 0 {
-            places[count] = place as u8;
+        if low_value::<F>(locator, place_locator::<F>(word, place)) == 0 {
+            terms[count] = Term {
+                place: place as u8,
+                value: 0,
+            };
             count += 1;
         }
     }
     count
+}
+
+// The locator of a place of a word of `word` octets.
+pub(crate) fn place_locator<F: Field>(word: usize, place: usize) -> u8
+    requires fits { word < F.Field.field.size }
+    requires inside { place < word }
+    ensures { result ≡ locator F.Field.field word place }
+{
+    F::power((word - 1 - place) as u8)
 }
 
 // The value of a polynomial, lowest power first.

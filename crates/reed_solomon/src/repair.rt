@@ -2,11 +2,12 @@
 ghost use Rattle.std.specs.Prelude.{◌≡◌, ℕ, ◌+◌, ◌<◌, ◌≤◌, length, slice_index};
 ghost use Rattle.rs_algebra.specs.Polynomials.{Elements};
 ghost use Rattle.rs_algebra.specs.Words.{Places};
-ghost use Rattle.reed_solomon.specs.Repairs.{Repaired, RepairedAt, Valued};
+ghost use Rattle.reed_solomon.specs.Repairs.{Repaired, RepairedAt, Valued, places_of, values_of};
 
 use crate::bounds::MOST_REPAIRS;
-use crate::mending::{count_nonzero, explains, mend_message};
+use crate::mending::{count_nonzero, mend_message};
 use crate::places::root_places;
+use crate::terms::{Pattern, Term};
 use crate::values::error_values;
 use field::Field;
 
@@ -27,43 +28,38 @@ pub(crate) fn repair<F: Field>(
     requires front { length message.old ≤ length received.now }
     ensures { Repaired F.Field.field received.now syndromes.now locator.now message.old message.new result }
 {
-    let mut places = [0; MOST_REPAIRS];
-    let mut values = [0; MOST_REPAIRS];
-    let count = root_places::<F>(locator, received.len(), &mut places);
-    repair_at::<F>(
-        syndromes,
-        received,
-        &places[..count],
-        &mut values[..count],
-        message,
-    )
+    let mut terms = [Term { place: 0, value: 0 }; MOST_REPAIRS];
+    let count = root_places::<F>(locator, received.len(), &mut terms);
+    repair_at::<F>(syndromes, received, &mut terms[..count], message)
 }
 
-// The same at given places; `values` takes their values.
+// The same at the places of given terms, whose values are found.
 fn repair_at<F: Field>(
     syndromes: &[u8],
     received: &[u8],
-    places: &[u8],
-    values: &mut [u8],
+    terms: &mut [Term],
     message: &mut [u8],
 ) -> Option<usize>
     requires fits { length received.now < F.Field.field.size }
-    requires places { Places (length received.now) places.now }
-    requires few { length places.now ≤ 8 }
-    requires enough { length places.now ≤ length syndromes.now }
-    requires alike { length places.now ≡ length values.old }
+    requires places { Places (length received.now) (places_of terms.old) }
+    requires few { length terms.old ≤ 8 }
+    requires enough { length terms.old ≤ length syndromes.now }
     requires most { length syndromes.now ≤ 16 }
     requires front { length message.old ≤ length received.now }
-    ensures alike { length places.now ≡ length values.new }
-    ensures values { Valued F.Field.field (length received.now) syndromes.now places.now values.new }
-    ensures elements { Elements F.Field.field values.new }
-    ensures answer { RepairedAt F.Field.field received.now places.now values.new syndromes.now message.old message.new result }
+    ensures places { places_of terms.new ≡ places_of terms.old }
+    ensures values { Valued F.Field.field (length received.now) syndromes.now (places_of terms.old) (values_of terms.new) }
+    ensures elements { Elements F.Field.field (values_of terms.new) }
+    ensures answer { RepairedAt F.Field.field received.now (places_of terms.old) (values_of terms.new) syndromes.now message.old message.new result }
 {
-    error_values::<F>(syndromes, received.len(), places, values);
-    if !explains::<F>(syndromes, received.len(), places, values) {
+    error_values::<F>(syndromes, received.len(), terms);
+    let pattern = Pattern {
+        word: received.len(),
+        terms,
+    };
+    if !pattern.explains::<F>(syndromes) {
         return None;
     }
     message.copy_from_slice(&received[..message.len()]);
-    mend_message(message, places, values);
-    Some(count_nonzero(values))
+    mend_message(message, terms);
+    Some(count_nonzero(terms))
 }

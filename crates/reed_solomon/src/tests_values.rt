@@ -1,33 +1,36 @@
 // Errors at known places: found, measured, checked and mended.
 ghost use Rattle.std.specs.Prelude.{◌+◌, ◌<◌, ◌≤◌, length, slice_index};
 ghost use Rattle.rs_algebra.specs.Words.{Places};
+ghost use Rattle.reed_solomon.specs.Repairs.{places_of};
 
-use crate::mending::{count_nonzero, explains, mend_message};
+use crate::mending::{count_nonzero, mend_message};
 use crate::places::{low_value, root_places};
 use crate::repair::repair;
 use crate::syndromes::syndromes;
+use crate::terms::{Pattern, Term};
 use crate::values::error_values;
 use field::Table;
+use std::array;
 use std::process::Abort;
 
-// An error of one octet or more in a word of `word` octets: a locator polynomial and the syndromes give back its places and values.
-fn gives_back(
-    rt: &impl Abort,
-    word: usize,
-    locator: &[u8],
-    sums: &[u8],
-    places: &[u8],
-    values: &[u8],
-) {
+// Terms with these values at these places.
+fn terms<const N: usize>(places: [u8; N], values: [u8; N]) -> [Term; N] {
+    array::from_fn(|i| Term {
+        place: places[i],
+        value: values[i],
+    })
+}
+
+// An error of one octet or more in a word of `word` octets: a locator polynomial and the syndromes give back its terms.
+fn gives_back(rt: &impl Abort, word: usize, locator: &[u8], sums: &[u8], terms: &[Term]) {
     assert!(rt; word < 256 && sums.len() <= 16);
     assert!(rt; 0 < locator.len() && locator.len() <= 9);
     assert!(rt; 0 < locator[0]);
-    has_syndromes(rt, word, sums, places, values);
-    let mut found = [0; 8];
+    has_syndromes(rt, word, sums, terms);
+    let mut found = [Term { place: 0, value: 0 }; 8];
     let count = root_places::<Table>(locator, word, &mut found);
     assert!(rt; count <= sums.len());
-    assert!(rt; &found[..count] == places);
-    measures(rt, word, sums, &found[..count], values);
+    measures(rt, word, sums, &mut found[..count], terms);
     assert!(rt; locator.len() <= sums.len() + 1 && sums.len() <= word);
     let mut error = [0; 255];
     let mut message = [0; 255];
@@ -38,8 +41,7 @@ fn gives_back(
         sums,
         &mut error[..word],
         &mut message[..frame],
-        places,
-        values,
+        terms,
     );
 }
 
@@ -50,8 +52,7 @@ fn repairs(
     sums: &[u8],
     error: &mut [u8],
     message: &mut [u8],
-    places: &[u8],
-    values: &[u8],
+    terms: &[Term],
 )
     requires fits { length error.old < 256 }
     requires some { 0 < slice_index locator.now 0 }
@@ -60,62 +61,46 @@ fn repairs(
     requires most { length sums.now ≤ 16 }
     requires front { length message.old ≤ length error.old }
 {
-    assert!(rt; places.len() == values.len());
-    mend_message(error, places, values);
+    mend_message(error, terms);
     message.fill(0xaa);
     assert_eq!(rt; repair::<Table>(sums, &[0x01], error, message), None);
-    assert_eq!(rt; count_nonzero(message), message.len());
+    assert!(rt; message.iter().all(|octet| *octet != 0));
     assert_eq!(rt;
         repair::<Table>(sums, locator, error, message),
-        Some(places.len())
+        Some(terms.len())
     );
-    assert_eq!(rt; count_nonzero(message), 0);
+    assert!(rt; message.iter().all(|octet| *octet == 0));
 }
 
 // An error with no octet but these has these syndromes.
-fn has_syndromes(rt: &impl Abort, word: usize, sums: &[u8], places: &[u8], values: &[u8]) {
+fn has_syndromes(rt: &impl Abort, word: usize, sums: &[u8], terms: &[Term]) {
     assert!(rt; word < 256 && sums.len() <= 16);
     let mut error = [0; 255];
     let mut made = [0; 16];
-    spoils(
-        rt,
-        &mut error[..word],
-        &mut made[..sums.len()],
-        places,
-        values,
-        sums,
-    );
+    spoils(rt, &mut error[..word], &mut made[..sums.len()], terms, sums);
 }
 
-fn spoils(
-    rt: &impl Abort,
-    error: &mut [u8],
-    made: &mut [u8],
-    places: &[u8],
-    values: &[u8],
-    sums: &[u8],
-) {
-    assert!(rt; places.len() == values.len() && made.len() <= 16);
-    mend_message(error, places, values);
+fn spoils(rt: &impl Abort, error: &mut [u8], made: &mut [u8], terms: &[Term], sums: &[u8]) {
+    assert!(rt; made.len() <= 16);
+    mend_message(error, terms);
     syndromes::<Table>(error, made);
     assert!(rt; *made == *sums);
 }
 
-fn measures(rt: &impl Abort, word: usize, sums: &[u8], places: &[u8], values: &[u8])
+fn measures(rt: &impl Abort, word: usize, sums: &[u8], found: &mut [Term], terms: &[Term])
     requires fits { word < 256 }
-    requires places { Places word places.now }
-    requires few { length places.now ≤ 8 }
-    requires enough { length places.now ≤ length sums.now }
+    requires places { Places word (places_of found.old) }
+    requires few { length found.old ≤ 8 }
+    requires enough { length found.old ≤ length sums.now }
     requires most { length sums.now ≤ 16 }
 {
-    let mut made = [0; 8];
-    let made = &mut made[..places.len()];
-    error_values::<Table>(sums, word, places, made);
-    assert!(rt; *made == *values);
-    assert_eq!(rt; count_nonzero(made), places.len());
-    assert!(rt; explains::<Table>(sums, word, places, made));
+    error_values::<Table>(sums, word, found);
+    assert!(rt; *found == *terms);
+    assert_eq!(rt; count_nonzero(found), terms.len());
+    let pattern = Pattern { word, terms: found };
+    assert!(rt; pattern.explains::<Table>(sums));
     assert!(rt; sums.len() > 1);
-    assert!(rt; !explains::<Table>(&sums[1..], word, places, made));
+    assert!(rt; !pattern.explains::<Table>(&sums[1..]));
 }
 
 #[test]
@@ -125,8 +110,7 @@ fn errors(rt: HostRuntime) {
         20,
         &[0x26, 0xb6, 0x48, 0xd8],
         &[0x8f, 0xa2, 0x12, 0x73, 0x86, 0xf6],
-        &[8, 11, 19],
-        &[0xcc, 0xb1, 0xf2],
+        &terms([8, 11, 19], [0xcc, 0xb1, 0xf2]),
     );
     gives_back(
         &rt,
@@ -136,8 +120,10 @@ fn errors(rt: HostRuntime) {
             0xa8, 0x1f, 0x14, 0x62, 0xb8, 0xc4, 0x56, 0x47, 0x40, 0x19, 0xa6, 0x17, 0x54, 0xf7,
             0x2c, 0xf1,
         ],
-        &[7, 119, 135, 166, 189, 198, 215, 236],
-        &[0xf2, 0x40, 0xa7, 0x0e, 0xe7, 0x29, 0x1d, 0x60],
+        &terms(
+            [7, 119, 135, 166, 189, 198, 215, 236],
+            [0xf2, 0x40, 0xa7, 0x0e, 0xe7, 0x29, 0x1d, 0x60],
+        ),
     );
     gives_back(
         &rt,
@@ -147,18 +133,16 @@ fn errors(rt: HostRuntime) {
             0x40, 0x94, 0x5e, 0x44, 0xda, 0x3f, 0x07, 0xf4, 0x80, 0x35, 0xbc, 0x88, 0xa9, 0x7e,
             0x0e, 0xf5,
         ],
-        &[222],
-        &[0x40],
+        &terms([222], [0x40]),
     );
     gives_back(
         &rt,
         12,
         &[0x26, 0xed, 0x04],
         &[0xd3, 0x2d, 0x8f, 0x82],
-        &[1, 8],
-        &[0x93, 0x40],
+        &terms([1, 8], [0x93, 0x40]),
     );
-    gives_back(&rt, 7, &[0xd2, 0x69], &[0x38, 0x70], &[5], &[0x38]);
+    gives_back(&rt, 7, &[0xd2, 0x69], &[0x38, 0x70], &terms([5], [0x38]));
     gives_back(
         &rt,
         40,
@@ -167,15 +151,17 @@ fn errors(rt: HostRuntime) {
             0x77, 0xef, 0xd1, 0xcd, 0x15, 0xe4, 0x63, 0x44, 0x95, 0x6d, 0xf9, 0x9c, 0x40, 0x4f,
             0x09, 0xf2,
         ],
-        &[4, 10, 11, 17, 24],
-        &[0x24, 0x9f, 0x9f, 0x72, 0x21],
+        &terms([4, 10, 11, 17, 24], [0x24, 0x9f, 0x9f, 0x72, 0x21]),
     );
 }
 
 #[test]
 fn mended_in_front(rt: HostRuntime) {
     let mut message = [0x10, 0x20, 0x30];
-    mend_message(&mut message, &[2, 3, 0, 255], &[0x01, 0x02, 0x13, 0xff]);
+    mend_message(
+        &mut message,
+        &terms([2, 3, 0, 255], [0x01, 0x02, 0x13, 0xff]),
+    );
     assert_eq!(rt; message, [0x03, 0x20, 0x31]);
 }
 
@@ -193,6 +179,6 @@ fn low_values(rt: HostRuntime) {
 #[test]
 fn counts(rt: HostRuntime) {
     assert_eq!(rt; count_nonzero(&[]), 0);
-    assert_eq!(rt; count_nonzero(&[0, 0]), 0);
-    assert_eq!(rt; count_nonzero(&[0, 7, 0, 255, 1]), 3);
+    assert_eq!(rt; count_nonzero(&terms([0; 2], [0, 0])), 0);
+    assert_eq!(rt; count_nonzero(&terms([0; 5], [0, 7, 0, 255, 1])), 3);
 }

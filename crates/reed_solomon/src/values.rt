@@ -2,68 +2,69 @@
 ghost use Rattle.std.specs.Prelude.{◌≡◌, ℕ, ◌+◌, ◌<◌, ◌≤◌, List, ◌++◌, length, slice_index};
 ghost use Rattle.rs_algebra.specs.Polynomials.{Elements, times_root, zeros};
 ghost use Rattle.rs_algebra.specs.Words.{Missing, Places, ValueFor};
-ghost use Rattle.reed_solomon.specs.Repairs.{Valued};
+ghost use Rattle.reed_solomon.specs.Repairs.{Valued, places_of, values_of};
 
 use crate::bounds::MOST_REPAIRS;
 use crate::linear::weighed_sum;
-use crate::places::low_value;
+use crate::places::{low_value, place_locator};
+use crate::terms::{Pattern, Term};
 use field::Field;
 
-// The values that an error with these syndromes has if it is nowhere but at these places of a word of `word` octets.
-pub(crate) fn error_values<F: Field>(
-    syndromes: &[u8],
-    word: usize,
-    places: &[u8],
-    values: &mut [u8],
-)
+// Sets the values that an error with these syndromes has if it is nowhere but at the terms' places of a word of `word` octets.
+// Stays with `word` beside the terms: a pattern lends its terms, and here they are written.
+pub(crate) fn error_values<F: Field>(syndromes: &[u8], word: usize, terms: &mut [Term])
     requires fits { word < F.Field.field.size }
-    requires places { Places word places.now }
-    requires most { length places.now ≤ 8 }
-    requires enough { length places.now ≤ length syndromes.now }
-    requires alike { length places.now ≡ length values.old }
-    ensures values { Valued F.Field.field word syndromes.now places.now values.new }
-    ensures elements { Elements F.Field.field values.new }
+    requires places { Places word (places_of terms.old) }
+    requires most { length terms.old ≤ 8 }
+    requires enough { length terms.old ≤ length syndromes.now }
+    ensures places { places_of terms.new ≡ places_of terms.old }
+    ensures values { Valued F.Field.field word syndromes.now (places_of terms.old) (values_of terms.new) }
+    ensures elements { Elements F.Field.field (values_of terms.new) }
 {
-    for i in 0..places.len() {
-        values[i] = value_for::<F>(syndromes, word, places, places[i]);
+    // Stays by index: each value is found from the places of all terms, which `terms.iter_mut()` would hold borrowed.
+    for i in 0..terms.len() {
+        let pattern = Pattern { word, terms };
+        let value = pattern.value_at::<F>(syndromes, terms[i].place);
+        terms[i].value = value;
     }
 }
 
-// The value at one of the places: the syndromes weighed by a polynomial that vanishes at all the others, divided by its value here.
-fn value_for<F: Field>(syndromes: &[u8], word: usize, places: &[u8], place: u8) -> u8
-    requires fits { word < F.Field.field.size }
-    requires inside { (i : ℕ) → i < length places.now → slice_index places.now i < word }
-    requires among { (i : ℕ) × (i < length places.now) × (slice_index places.now i ≡ place) }
-    requires most { length places.now ≤ 8 }
-    requires enough { length places.now ≤ length syndromes.now }
-    ensures { ValueFor F.Field.field word (λ j. slice_index syndromes.now j) places.now place result }
-{
-    let mut room = [0; MOST_REPAIRS];
-    let polynomial = &mut room[..places.len()];
-    vanishing_elsewhere::<F>(word, places, place, polynomial);
-    let here = low_value::<F>(polynomial, F::power((word - 1 - place as usize) as u8));
-    F::times(weighed_sum::<F>(polynomial, syndromes), F::inverse(here))
-}
+impl Pattern<'_> {
+    // The value at one of the places: the syndromes weighed by a polynomial that vanishes at all the others, divided by its value here.
+    fn value_at<F: Field>(&self, syndromes: &[u8], place: u8) -> u8
+        requires fits { self.now.word < F.Field.field.size }
+        requires among { (i : ℕ) × (i < length (places_of self.now.terms.now)) × (slice_index (places_of self.now.terms.now) i ≡ place) }
+        requires most { length self.now.terms.now ≤ 8 }
+        requires enough { length self.now.terms.now ≤ length syndromes.now }
+        ensures { ValueFor F.Field.field self.now.word (λ j. slice_index syndromes.now j) (places_of self.now.terms.now) place result }
+    {
+        let mut room = [0; MOST_REPAIRS];
+        let polynomial = &mut room[..self.terms.len()];
+        self.vanishing_elsewhere::<F>(place, polynomial);
+        let here = low_value::<F>(polynomial, place_locator::<F>(self.word, place as usize));
+        F::times(weighed_sum::<F>(polynomial, syndromes), F::inverse(here))
+    }
 
-// Writes a polynomial, lowest power first, that vanishes at the locators of all the places but one.
-fn vanishing_elsewhere<F: Field>(word: usize, places: &[u8], place: u8, polynomial: &mut [u8])
-    requires fits { word < F.Field.field.size }
-    requires inside { (i : ℕ) → i < length places.now → slice_index places.now i < word }
-    requires among { (i : ℕ) × (i < length places.now) × (slice_index places.now i ≡ place) }
-    requires room { length places.now ≡ length polynomial.old }
-    ensures { Missing F.Field.field word place places.now polynomial.new }
-{
-    polynomial.fill(0);
-    polynomial[0] = 1;
-    for other in places {
-        if *other != place {
-            let locator = F::power((word - 1 - *other as usize) as u8);
-            times_root::<F>(polynomial, locator);
+    // Writes a polynomial, lowest power first, that vanishes at the locators of all the places but one.
+    fn vanishing_elsewhere<F: Field>(&self, place: u8, polynomial: &mut [u8])
+        requires fits { self.now.word < F.Field.field.size }
+        requires among { (i : ℕ) × (i < length (places_of self.now.terms.now)) × (slice_index (places_of self.now.terms.now) i ≡ place) }
+        requires room { length self.now.terms.now ≡ length polynomial.old }
+        ensures { Missing F.Field.field self.now.word place (places_of self.now.terms.now) polynomial.new }
+    {
+        polynomial.fill(0);
+        polynomial[0] = 1;
+        for other in self.terms {
+            if other.place != place {
+                let locator = place_locator::<F>(self.word, other.place as usize);
+                times_root::<F>(polynomial, locator);
+            }
         }
     }
 }
 
 // Multiplies by x + root, in place: lowest power first, with room behind the last coefficient.
+// Stays beside the generator's `add_root`: there the highest power comes first, and the other of two coefficients is multiplied.
 fn times_root<F: Field>(polynomial: &mut [u8], root: u8)
     ensures { (p : List ℕ) (n : ℕ) → polynomial.old ≡ p ++ zeros (n + 1) → polynomial.new ≡ times_root F.Field.field root p ++ zeros n }
 {

@@ -1,7 +1,7 @@
 // The elimination: each equation costs one vector. An equation is the syndromes from its number on.
-ghost use Rattle.std.specs.Prelude.{◌≡◌, ℕ, ◌+◌, ◌<◌, ◌≤◌, length, slice_set};
+ghost use Rattle.std.specs.Prelude.{◌≡◌, ℕ, ◌+◌, ◌<◌, ◌≤◌, length, slice_set, take};
 ghost use Rattle.rs_algebra.specs.Polynomials.{weighed, zeros};
-ghost use Rattle.reed_solomon.specs.Locating.{FirstOff, Solve, cleared, held, vector};
+ghost use Rattle.reed_solomon.specs.Locating.{FirstOff, Solve, cleared, front, held, vector};
 
 use crate::bounds::MOST_UNKNOWNS;
 use crate::linear::{add_multiple, weighed_sum};
@@ -19,6 +19,30 @@ fn unit(place: usize) -> [u8; MOST_UNKNOWNS]
     vector
 }
 
+// Adds to the front of a row so much of the pivot that it meets the equation; `inverse` is that of what the equation gives at the pivot.
+fn clear<F: Field>(row: &mut [u8], pivot: &[u8], inverse: u8, equation: &[u8])
+    requires inside { length pivot.now ≤ length equation.now }
+    requires long { length pivot.now ≤ length row.old }
+    requires inverse { inverse ≡ F.Field.field.inverse (weighed F.Field.field pivot.now (held equation.now) 0) }
+    ensures { take (length pivot.now) row.new ≡ cleared F.Field.field (held equation.now) 0 pivot.now (take (length pivot.now) row.old) }
+{
+    let front = &mut row[..pivot.len()];
+    let factor = F::times(weighed_sum::<F>(front, equation), inverse);
+    add_multiple::<F>(front, factor, pivot);
+}
+
+// The same for each row.
+fn eliminate<F: Field>(rows: &mut [[u8; MOST_UNKNOWNS]], pivot: &[u8], equation: &[u8])
+    requires inside { length pivot.now ≤ length equation.now }
+    requires narrow { length pivot.now ≤ 9 }
+    ensures { (k : ℕ) → k < length rows.old → front (length pivot.now) rows.new k ≡ cleared F.Field.field (held equation.now) 0 pivot.now (front (length pivot.now) rows.old k) }
+{
+    let inverse = F::inverse(weighed_sum::<F>(pivot, equation));
+    for row in rows.iter_mut() {
+        clear::<F>(row, pivot, inverse, equation);
+    }
+}
+
 impl Vectors {
     // The unit vectors.
     pub(crate) fn units(width: usize) -> Vectors
@@ -34,42 +58,14 @@ impl Vectors {
         }
     }
 
-    // What the equation gives at vector i.
-    fn value_of<F: Field>(&self, i: usize, equation: &[u8]) -> u8
-        requires i_bound { i < 9 }
-        requires width_in_bounds { self.now.width ≤ length equation.now }
-        ensures { result ≡ weighed F.Field.field (vector self.now i) (held equation.now) 0 }
-    {
-        weighed_sum::<F>(&self.rows[i][..self.width], equation)
-    }
-
     // The first vector that does not meet the equation.
     fn pivot<F: Field>(&self, equation: &[u8]) -> Option<usize>
         requires { self.now.width ≤ length equation.now }
         ensures { FirstOff F.Field.field (held equation.now) 0 self.now result }
     {
-        (0..self.kept).find(|i| self.value_of::<F>(*i, equation) != 0)
-    }
-
-    // Adds to each of the vectors `from` to `to` - 1 so much of the pivot that it meets the equation.
-    fn eliminate<F: Field>(&mut self, from: usize, to: usize, pivot: &[u8], equation: &[u8])
-        requires range { (from ≤ to) × (to ≤ self.old.kept) }
-        requires inside { self.old.width ≤ length equation.now }
-        requires wide { length pivot.now ≡ self.old.width }
-        requires long { (k : ℕ) → k < to → length (vector self.old k) ≡ self.old.width }
-        ensures width { self.new.width ≡ self.old.width }
-        ensures kept { self.new.kept ≡ self.old.kept }
-        ensures before { (k : ℕ) → k < from → vector self.new k ≡ vector self.old k }
-        ensures cleared { (k : ℕ) → from ≤ k → k < to → vector self.new k ≡ cleared F.Field.field (held equation.now) 0 pivot.now (vector self.old k) }
-    {
-        let width = self.width;
-        let inverse = F::inverse(weighed_sum::<F>(pivot, equation));
-        for i in from..to {
-            let factor = F::times(self.value_of::<F>(i, equation), inverse);
-            let mut row = self.rows[i];
-            add_multiple::<F>(&mut row[..width], factor, pivot);
-            self.rows[i] = row;
-        }
+        self.rows[..self.kept]
+            .iter()
+            .position(|row| weighed_sum::<F>(&row[..self.width], equation) != 0)
     }
 
     // Leaves one vector fewer, all of which meet the equation of this number too.
@@ -82,14 +78,15 @@ impl Vectors {
         ensures met { Solve F.Field.field (held syndromes.now) (number + 1) self.new }
     {
         let equation = &syndromes[number..];
-        let last = self.kept - 1;
-        let width = self.width;
-        if let Some(p) = self.pivot::<F>(equation) {
-            let pivot = self.rows[p];
-            self.rows[p] = self.rows[last];
-            self.eliminate::<F>(p, last, &pivot[..width], equation);
-        }
-        self.kept = last;
+        let found = self.pivot::<F>(equation);
+        self.kept -= 1;
+        let Some(p) = found else {
+            return;
+        };
+        let last = self.kept;
+        let pivot = self.rows[p];
+        self.rows[p] = self.rows[last];
+        eliminate::<F>(&mut self.rows[p..last], &pivot[..self.width], equation);
     }
 
     // Copies the first vector out.

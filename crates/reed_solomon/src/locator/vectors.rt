@@ -3,6 +3,7 @@ ghost use Rattle.std.specs.Prelude.{◌≤◌};
 
 use crate::bounds::MOST_UNKNOWNS;
 
+// Stays with lengths beside the rows: there is no heap, and this struct is what owns all three.
 // `kept` vectors of `width` coefficients each, at the front of the first rows.
 #[derive(Drop)]
 pub(crate) struct Vectors {

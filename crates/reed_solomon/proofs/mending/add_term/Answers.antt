@@ -9,6 +9,3 @@ pub loop-sum-preserved : goal.loop-sum-preserved
 loop-sum-preserved g c =
     next g.F.Field.field g.met.F.Field.laws c.args.value c.args.x c.args.sums.now
     c.loop-sum.sum-index c.loop-sum.term c.times-term.result c.loop-sum.sums (omega arith) c.times-term.ensures c.loop-sum.invariant
-
-pub returns : goal.returns
-returns g c j h = c.loop-sum.invariant.made j (omega arith)

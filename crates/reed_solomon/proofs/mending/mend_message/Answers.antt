@@ -1,34 +1,24 @@
-use Rattle.std.proofs.Common.{◌≤◌, length, get_or, take, set, sym, refl, ap, ◌∙◌, ap₂, arith}
+use Rattle.std.proofs.Common.{get_or, set, sym, refl, ap, ◌∙◌}
 use lib.Bits.{bit_xor}
-use Rattle.std.proofs.lemmas.List.{take_all}
 use Rattle.rs_algebra.specs.Words.{mend}
-use Rattle.reed_solomon.proofs.OneMore.{mend_next, mend-past}
+use Rattle.reed_solomon.specs.declared.terms.Term.{Term}
+use Rattle.reed_solomon.proofs.OneMore.{none, mend_next, mend-past}
 use Rattle.reed_solomon.proofs.mending.mend_message.Goals as goal
 use Rattle.reed_solomon.proofs.mending.mend_message.Goals.{then-place-message, else-place-message}
 
-pub loop-i-init : goal.loop-i-init
+pub loop-term-init : goal.loop-term-init
 unfolding mend
-loop-i-init c = refl
+loop-term-init c = refl
 
-pub loop-i-preserved : goal.loop-i-preserved
-loop-i-preserved c =
+pub loop-term-preserved : goal.loop-term-preserved
+loop-term-preserved c =
     let xs = c.args.message.now in
-    let ws = c.args.places.now in
-    let vs = c.args.values.now in
-    let i = c.loop-i.i in
-    let w = get_or ws i 0 in
+    let ts = c.args.terms.now in
+    let i = c.loop-term.term-index in
+    let h = c.loop-term-test.true in
+    let t : Term = get_or ts i none in
     elim c.if-place-message.branch [
-      | then-place-message way ↦
-          way.message-is ∙ ap (λ ys. set ys w (bit_xor (get_or ys w 0) (get_or vs i 0))) c.loop-i.invariant
-          ∙ sym (mend_next xs ws vs i c.requires c.loop-i-test.true)
-      | else-place-message way ↦
-          let past : length (mend xs (take i ws) (take i vs)) ≤ w = rw (sym c.loop-i.invariant) way.if-place-message.false in
-          way.message-is ∙ c.loop-i.invariant ∙ sym (mend-past xs ws vs i c.requires c.loop-i-test.true past)
+      | then-place-message w ↦
+          w.message-is ∙ ap (λ ys. set ys t.place (bit_xor (get_or ys t.place 0) t.value)) c.loop-term.invariant ∙ sym (mend_next ts i h xs)
+      | else-place-message w ↦ w.message-is ∙ mend-past ts i h xs c.loop-term.message c.loop-term.invariant w.if-place-message.false
     ]
-
-pub returns : goal.returns
-returns c =
-    let ws = c.args.places.now in
-    let vs = c.args.values.now in
-    let i = c.loop-i.i in
-    c.loop-i.invariant ∙ ap₂ (mend c.args.message.now) (take_all i ws (omega arith)) (take_all i vs (omega (arith, c.requires)))

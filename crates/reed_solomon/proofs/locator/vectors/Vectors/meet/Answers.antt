@@ -1,64 +1,44 @@
-use Rattle.std.proofs.Common.{◌≡◌, ℕ, ◌+◌, ◌-◌, ◌<◌, List, [], length, get_or, set, sym, ap, ◌∙◌, subst, arith, rules, length-take, length-drop}
-use Rattle.reed_solomon.specs.declared.locator.vectors.Vectors.{Vectors}
-use Rattle.reed_solomon.specs.Locating.{Solutions, front, held, vector}
-use Rattle.reed_solomon.proofs.Clearing.{front_else, front-moved, long_moved, row_long}
+use Rattle.std.proofs.Common.{◌≡◌, ℕ, ◌+◌, ◌-◌, ◌<◌, ◌≤◌, List, [], length, get_or, set, take, drop, sym, ap, ◌∙◌, subst, arith, rules, length-set, length-take, length-drop}
+use Rattle.reed_solomon.specs.Locating.{cleared, front, held, vector}
+use Rattle.reed_solomon.proofs.Clearing.{front_else, front-moved, front_below, front_within, front_part}
 use Rattle.reed_solomon.proofs.Elimination.{all_meet, pivoted}
 use Rattle.reed_solomon.proofs.WeighedSums.{cleared_from, weighed_from}
 use Rattle.reed_solomon.proofs.locator.vectors.Vectors.meet.Goals as goal
-use Rattle.reed_solomon.proofs.locator.vectors.Vectors.meet.Goals.{in-Some, in_default}
 
-pub slice_bounds-pivot-end : goal.slice_bounds-pivot-end
-slice_bounds-pivot-end g c =
-    let p = c.in-Some.p in
-    row_long c.args.self.now.width (get_or c.args.self.now.rows p []) (c.requires.met.long p c.in-Some.ensures.0)
-
-pub eliminate-requires : goal.eliminate-requires
-eliminate-requires g c =
+pub returns-in_default-clause-met : goal.returns-in_default-clause-met
+returns-in_default-clause-met g c =
     let v = c.args.self.now in
-    let p = c.in-Some.p in
-    let in_p : p < v.kept = c.in-Some.ensures.0 in
-    let nine : length v.rows ≡ 9 = search rules in
-    record {
-      range = (omega arith, omega arith);
-      inside = omega (arith, c.requires.inside, length-take {A = ℕ}, length-drop {A = ℕ});
-      wide = c.requires.met.long p in_p;
-      long = λ k h. long_moved v.width v.rows (v.kept - 1) p (omega arith) (omega arith) c.requires.met.long k (omega arith);
-    }
+    all_meet g.F.Field.field g.met.F.Field.laws c.requires.met (omega arith)
+    (λ k h. sym (weighed_from g.F.Field.field c.args.syndromes.now c.args.number (vector v k)) ∙ c.in_default.ensures k h)
 
-pub returns : goal.returns
-returns g c =
+pub returns-clause-met : goal.returns-clause-met
+returns-clause-met g c =
     let v = c.args.self.now in
+    let w : ℕ = v.width in
     let m = v.kept - 1 in
     let f = g.F.Field.field in
-    let laws = g.met.F.Field.laws in
-    let S = held c.args.syndromes.now in
     let nine : length v.rows ≡ 9 = search rules in
-    let fewer : v.kept ≡ m + 1 = omega arith in
+    let p : ℕ = c.in-Some.p in
+    let off = c.in-Some.ensures in
+    let here : p < length v.rows = omega (arith, off.0) in
     let j = c.args.number in
-    let from = weighed_from f c.args.syndromes.now j in
-    let Met : ℕ → (ℕ → List ℕ) → Type 0 = λ w R. Solutions f S w m (j + 1) R in
-    let P : Vectors → Type 0 = λ x. Met x.width (vector x) in
-    elim c.match-pivot.branch [
-      | in-Some w ↦
-          let p : ℕ = w.in-Some.p in
-          let off = w.in-Some.ensures in
-          let here : p < length v.rows = omega (arith, off.0) in
-          let next = w.eliminate.new.self in
-          let solved : Met v.width (vector next)
-          = pivoted f laws c.requires.met fewer p (omega (arith, off.0)) {R₁ = front v.width (set v.rows p (get_or v.rows m []))}
-          (rw (from (vector v p)) at off.1) (λ i l. sym (from (vector v i)) ∙ off.2 i l)
-          (front-moved v.width v.rows m p here) (λ k ne. front_else v.width v.rows p k (get_or v.rows m []) ne)
-          w.eliminate.ensures.before
-          (λ k h l. w.eliminate.ensures.cleared k h l ∙ cleared_from f c.args.syndromes.now j (vector v p) (front v.width (set v.rows p (get_or v.rows m [])) k)) in
-          record {
-            width = ap (λ (x : Vectors). x.width) w.self-is ∙ w.eliminate.ensures.width;
-            kept = omega arith;
-            met = subst P (sym w.self-is) (subst (λ n. Met n (vector next)) (sym w.eliminate.ensures.width) solved);
-          }
-      | in_default w ↦
-          record {
-            width = ap (λ (x : Vectors). x.width) w.self-is;
-            kept = omega arith;
-            met = subst P (sym w.self-is) (all_meet f laws c.requires.met fewer (λ k h. sym (from (vector v k)) ∙ w.in_default.ensures k h));
-          }
-    ]
+    let s = c.args.syndromes.now in
+    let from = weighed_from f s j in
+    let moved = set v.rows p (get_or v.rows m []) in
+    let cleared-rows = c.eliminate.new.rows in
+    let rest = take (m - p) (drop p moved) in
+    let inside : p + (m - p) ≤ length moved = omega (arith, length-set {A = List ℕ}) in
+    let many : length rest ≡ m - p = omega (arith, length-take {A = List ℕ}, length-drop {A = List ℕ}) in
+    let long : length cleared-rows ≡ m - p = c.eliminate.auto.rows ∙ many in
+    let u = vector v p in
+    let S₀ = held (take (length s - j) (drop j s)) in
+    let wide : length (front w v.rows p) ≡ w = c.requires.met.long p off.0 in
+    pivoted f g.met.F.Field.laws c.requires.met (omega arith) p (omega (arith, off.0)) {R₁ = front w moved}
+    (rw (from (vector v p)) at off.1) (λ i l. sym (from (vector v i)) ∙ off.2 i l)
+    (front-moved w v.rows m p here) (λ k ne. front_else w v.rows m p k ne)
+    (λ k h. front_below w p (m - p) moved cleared-rows inside long k h)
+    (λ k h l.
+    front_within w p (m - p) moved cleared-rows inside long k h (omega arith)
+    ∙ subst (λ n. front n cleared-rows (k - p) ≡ cleared f S₀ 0 u (front n rest (k - p))) wide (c.eliminate.ensures (k - p) (omega arith))
+    ∙ cleared_from f s j u (front w rest (k - p))
+    ∙ ap (cleared f (held s) j (vector v p)) (front_part w p (m - p) moved cleared-rows inside long k h (omega arith)))

@@ -1,7 +1,0 @@
-use Rattle.std.proofs.Common.{take}
-use Rattle.reed_solomon.proofs.Elsewhere.{Holding}
-use Rattle.reed_solomon.proofs.values.vanishing_elsewhere.Given as goal
-
--- the polynomial for the places so far
-abbrev pub invariant-loop-other : goal.invariant-loop-other
-invariant-loop-other g l = Holding g.F.Field.field g.met.F.Field.laws l.word l.place (take l.other-index l.initial.places) l.polynomial
