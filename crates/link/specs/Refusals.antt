@@ -1,10 +1,8 @@
 -- The number of each refusal of a call, and the tests that calls of both ends share. Assumes nothing.
-use Rattle.std.specs.Prelude.{ℕ, cond, List, length, Ok, Err, Result, ◌==◌, nat_lt}
+use Rattle.std.specs.Prelude.{ℕ, List, length, Ok, Err, Result, ◌==◌, nat_lt}
 use Prim.{Unit, tt}
 use Rattle.places.specs.Line.{Plan}
 use Rattle.coder.specs.Codes.{Code}
-use Rattle.coder.specs.declared.misfit.Misfit.{Misfit}
-use Rattle.coder.specs.declared.misfit.Misfit.TheVariants.{Memory}
 use Rattle.coder.specs.Misfits.{misfit_number}
 use Rattle.runs.specs.Senders.{unless, most_words, frame_fits, line_fits}
 use Rattle.link.specs.declared.refused.Refused.{Refused}
@@ -21,20 +19,18 @@ told (Ok a) = Ok a
 told (Err e) = Err (refused_number e)
 
 -- refusal 7
-abbrev pub memory_answer : {E : Type 0} → (room : ℕ) → (memory : List E) → Result (Unit {0}) Misfit
-memory_answer room memory = cond (length memory == room) (Ok tt) (Err Memory)
+abbrev pub memory_answer : {E : Type 0} → (room : ℕ) → (memory : List E) → Result (Unit {0}) ℕ
+memory_answer room memory = unless (length memory == room) 7 (Ok tt)
 
--- a send or a receive, whose memory has so many elements: refusals 10, 5, 6, 7
-abbrev pub word_answer : {E : Type 0} → Plan → Code → (words room : ℕ) → (memory : List E) (frame : List ℕ) (line : List E) → Result (Unit {0}) ℕ
-word_answer p c words room memory frame line =
+-- a send or a receive: refusals 10, 5, 6
+abbrev pub word_answer : {E : Type 0} → Plan → Code → (words : ℕ) → (frame : List ℕ) (line : List E) → Result (Unit {0}) ℕ
+word_answer p c words frame line =
     unless (nat_lt words most_words) 10 (
     unless (frame_fits p c frame) 5 (
-    unless (line_fits p c line) 6 (
-    unless (length memory == room) 7 (Ok tt))))
+    unless (line_fits p c line) 6 (Ok tt)))
 
 -- a drain or a fill: refusals 11, 6, 7
 abbrev pub turn_answer : {E : Type 0} → Plan → (turns room : ℕ) → (memory line : List E) → Result (Unit {0}) ℕ
 turn_answer p turns room memory line =
     unless (nat_lt turns p.lag) 11 (
-    unless (length line == p.word) 6 (
-    unless (length memory == room) 7 (Ok tt)))
+    unless (length line == p.word) 6 (memory_answer room memory))

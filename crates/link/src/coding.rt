@@ -16,6 +16,7 @@ pub(crate) fn encode_frame<C: Coder>(
     requires { FitsCoder (C.Coder.code coder.now) frame.now line.old }
     ensures { Coded (C.Coder.code coder.now) (earlier_bits earlier.old) (earlier_bits earlier.new) frame.now line.new }
 {
+    // Stays a room of fixed length: nothing here allocates.
     let mut room = [0; LONGEST_WORD];
     let message = &mut room[..frame.len()];
     message.copy_from_slice(frame);

@@ -11,6 +11,7 @@ use setting::Setting;
 const MOST_WORDS: usize = 1000000;
 
 // The coder's frames, and how many octets it repairs.
+// Stays with setting and coder apart, here and below: a host lends them apart, and a pair of them would be made for one test.
 pub(crate) fn frames_fit<C: Coder>(setting: &Setting, coder: &C) -> bool
     ensures { result ≡ ((C.Coder.code coder.now).sizes.frame == setting.now.sizes.frame && (C.Coder.code coder.now).sizes.repairs == setting.now.sizes.repairs) }
 {
@@ -25,27 +26,25 @@ pub(crate) fn words_fit<C: Coder>(setting: &Setting, coder: &C) -> bool
     coder.sizes().word == setting.sizes.word
 }
 
-// Refusal 7.
-pub(crate) fn memory_fits<E>(memory: &[E], room: usize) -> Result<(), Misfit>
-    ensures { result ≡ memory_answer room memory.now }
+// Refusal 7, the last that a call tests.
+pub(crate) fn memory_fits<E>(memory: &[E], room: usize) -> Result<(), Refused>
+    ensures { told result ≡ memory_answer room memory.now }
 {
     if memory.len() != room {
-        return Err(Misfit::Memory);
+        return Err(Misfit::Memory.into());
     }
     Ok(())
 }
 
-// A send or a receive: refusals 10, 5, 6 and 7.
+// A send or a receive, but for its memory: refusals 10, 5 and 6.
 pub(crate) fn word_taken<C: Coder, E>(
     setting: &Setting,
     coder: &C,
     words: usize,
     frame: &[u8],
     line: &[E],
-    memory: &[E],
-    room: usize,
 ) -> Result<(), Refused>
-    ensures { told result ≡ word_answer (plan setting.now) (C.Coder.code coder.now) words room memory.now frame.now line.now }
+    ensures { told result ≡ word_answer (plan setting.now) (C.Coder.code coder.now) words frame.now line.now }
 {
     if words >= MOST_WORDS {
         return Err(Refused::PastLastWord);
@@ -56,7 +55,6 @@ pub(crate) fn word_taken<C: Coder, E>(
     if line.len() != setting.sizes.word || !words_fit(setting, coder) {
         return Err(Misfit::Line.into());
     }
-    memory_fits(memory, room)?;
     Ok(())
 }
 
@@ -76,6 +74,5 @@ pub(crate) fn turn_taken<E>(
     if line.len() != setting.sizes.word {
         return Err(Misfit::Line.into());
     }
-    memory_fits(memory, room)?;
-    Ok(())
+    memory_fits(memory, room)
 }

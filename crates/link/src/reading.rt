@@ -15,6 +15,7 @@ fn values(word: &[Arrival]) -> [u8; LONGEST_WORD]
     requires { length word.now ≤ 255 }
     ensures { take (length word.now) result ≡ map value_of word.now }
 {
+    // Stays a room of fixed length: nothing here allocates.
     let mut octets = [0; LONGEST_WORD];
     // Stays with an index for the octets: of what a zip with `iter_mut` writes a proof knows the length alone.
     for (place, arrival) in word.iter().enumerate() {
@@ -34,11 +35,7 @@ fn marks(word: &[Arrival]) -> usize
 }
 
 // The message whose word is near. The lengths fit, so a coder that gives none has lost the word.
-fn message_of<C: Coder>(
-    coder: &C,
-    word: &[Arrival],
-    message: &mut [u8],
-) -> Result<usize, Cause>
+fn message_of<C: Coder>(coder: &C, word: &[Arrival], message: &mut [u8]) -> Result<usize, Cause>
     requires { FitsCoder (C.Coder.code coder.now) message.old word.now }
     ensures { Messages (C.Coder.code coder.now) word.now message.new result }
 {
@@ -57,6 +54,7 @@ pub(crate) fn read_word<C: Coder>(
     requires { FitsCoder (C.Coder.code coder.now) frame.old word.now }
     ensures { Frames (C.Coder.code coder.now) (descrambling earlier.old) (descrambling earlier.new) word.now frame.old frame.new result }
 {
+    // Stays a room of fixed length: nothing here allocates.
     let mut room = [0; LONGEST_WORD];
     let message = &mut room[..frame.len()];
     let before = earlier.take();

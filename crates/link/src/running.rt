@@ -3,7 +3,7 @@ ghost use Rattle.std.specs.Prelude.{◌≡◌, ◌+◌, ◌<◌, ◌≤◌, leng
 ghost use Rattle.link.specs.Reading.{Accepts, Takes};
 ghost use Rattle.link.specs.Receivers.{Receives};
 
-use crate::fitting::word_taken;
+use crate::fitting::{memory_fits, word_taken};
 use crate::gathering::{memory_length, next_word};
 use crate::loss::{Cause, Loss, Unreceived};
 use crate::reading::read_word;
@@ -40,8 +40,8 @@ impl Running {
     ) -> Result<usize, Unreceived>
         ensures { Receives (C.Coder.code coder.now) self.old self.new memory.old memory.new line.now frame.old frame.new result }
     {
-        let room = memory_length(&self.setting);
-        word_taken(&self.setting, coder, self.words, frame, line, memory, room)?;
+        word_taken(&self.setting, coder, self.words, frame, line)?;
+        memory_fits(memory, memory_length(&self.setting))?;
         let word = self.words;
         self.receive_word(coder, memory, line, frame)
             .map_err(|cause| Unreceived::Lost(Loss { cause, word }))

@@ -38,8 +38,8 @@ impl Sending {
     ) -> Result<(), Refused>
         ensures { Sends (C.Coder.code coder.now) self.old self.new memory.old memory.new frame.now line.old line.new result }
     {
-        let room = self.setting.memory;
-        word_taken(&self.setting, coder, self.words, frame, line, memory, room)?;
+        word_taken(&self.setting, coder, self.words, frame, line)?;
+        memory_fits(memory, self.setting.memory)?;
         self.send_word(coder, memory, frame, line);
         Ok(())
     }

@@ -46,6 +46,7 @@ impl Setting {
         ensures longest { Longest (plan self.now) most result }
         ensures sharp { Sharp (plan self.now) most result }
     {
+        // Stays a room of fixed length: nothing here allocates.
         let mut counts = [0usize; LONGEST_WORD];
         let counts = &mut counts[..self.sizes.word];
         let mut longest = 0;
