@@ -36,6 +36,7 @@ impl From<Refused> for Unreceived {
 }
 
 impl Cause {
+    // Stays a match: an enum with a value in one of its cases has no numbers of its own.
     pub fn number(self) -> u8
         ensures { result ≡ cause_number self }
     {
@@ -47,6 +48,7 @@ impl Cause {
 }
 
 impl Unreceived {
+    // Stays a match: an enum with a value in one of its cases has no numbers of its own.
     pub fn number(self) -> u8
         ensures { result ≡ unreceived_number self }
     {
