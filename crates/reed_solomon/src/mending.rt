@@ -10,10 +10,9 @@ use crate::terms::{Pattern, Term};
 use coder::sizes::MOST_CHECK;
 use field::Field;
 
-impl Pattern<'_> {
+impl<F: Field> Pattern<'_, F> {
     // Whether the error has these syndromes.
-    pub(crate) fn explains<F: Field>(&self, syndromes: &[u8]) -> bool
-        requires fits { self.now.word < F.Field.field.size }
+    pub(crate) fn explains(&self, syndromes: &[u8]) -> bool
         requires elements { Elements F.Field.field (values_of self.now.terms.now) }
         requires most { length syndromes.now ≤ 16 }
         ensures passes { result ≡ true → Passes F.Field.field self.now.word (places_of self.now.terms.now) (values_of self.now.terms.now) syndromes.now }
@@ -21,13 +20,12 @@ impl Pattern<'_> {
     {
         let mut room = [0; MOST_CHECK];
         let sums = &mut room[..syndromes.len()];
-        self.add_terms::<F>(sums);
+        self.add_terms(sums);
         *sums == *syndromes
     }
 
     // Writes the syndromes of the error: one running power for each term.
-    fn add_terms<F: Field>(&self, sums: &mut [u8])
-        requires fits { self.now.word < F.Field.field.size }
+    fn add_terms(&self, sums: &mut [u8])
         requires elements { Elements F.Field.field (values_of self.now.terms.now) }
         requires clear { (j : ℕ) → slice_index sums.old j ≡ 0 }
         ensures { (j : ℕ) → j < length sums.new → slice_index sums.new j ≡ terms_at F.Field.field self.now.word (places_of self.now.terms.now) (values_of self.now.terms.now) j }

@@ -10,6 +10,7 @@ use crate::places::root_places;
 use crate::terms::{Pattern, Term};
 use crate::values::error_values;
 use field::Field;
+use std::marker::PhantomData;
 
 // Writes the message of a received word with these syndromes, repaired at the places that the locator polynomial names. Answers how
 // many octets of the word were wrong, or nothing if such an error does not account for the syndromes.
@@ -52,11 +53,12 @@ fn repair_at<F: Field>(
     ensures answer { RepairedAt F.Field.field received.now (places_of terms.old) (values_of terms.new) syndromes.now message.old message.new result }
 {
     error_values::<F>(syndromes, received.len(), terms);
-    let pattern = Pattern {
+    let pattern = Pattern::<F> {
+        field: PhantomData,
         word: received.len(),
         terms,
     };
-    if !pattern.explains::<F>(syndromes) {
+    if !pattern.explains(syndromes) {
         return None;
     }
     message.copy_from_slice(&received[..message.len()]);
