@@ -7,30 +7,31 @@ ghost use Rattle.reed_solomon.specs.Repairs.{Valued, places_of, values_of};
 use crate::bounds::MOST_REPAIRS;
 use crate::linear::weighed_sum;
 use crate::places::{low_value, place_locator};
+use crate::received::Received;
 use crate::terms::{Pattern, Term};
 use field::Field;
 use std::marker::PhantomData;
 
-// Sets the values that an error with these syndromes has if it is nowhere but at the terms' places of a word of `word` octets.
-// Stays with `word` beside the terms: a pattern lends its terms, and here they are written.
-pub(crate) fn error_values<F: Field>(syndromes: &[u8], word: usize, terms: &mut [Term])
-    requires fits { word < F.Field.field.size }
-    requires places { Places word (places_of terms.old) }
-    requires most { length terms.old ≤ 8 }
-    requires enough { length terms.old ≤ length syndromes.now }
-    ensures places { places_of terms.new ≡ places_of terms.old }
-    ensures values { Valued F.Field.field word syndromes.now (places_of terms.old) (values_of terms.new) }
-    ensures elements { Elements F.Field.field (values_of terms.new) }
-{
-    // Stays by index: each value is found from the places of all terms, which `terms.iter_mut()` would hold borrowed.
-    for i in 0..terms.len() {
-        let pattern = Pattern::<F> {
-            field: PhantomData,
-            word,
-            terms,
-        };
-        let value = pattern.value_at(syndromes, terms[i].place);
-        terms[i].value = value;
+impl<F: Field> Received<'_, F> {
+    // Sets the values that an error with these syndromes has if it is nowhere but at the terms' places of the word.
+    pub(crate) fn error_values(&self, syndromes: &[u8], terms: &mut [Term])
+        requires places { Places (length self.now.octets.now) (places_of terms.old) }
+        requires most { length terms.old ≤ 8 }
+        requires enough { length terms.old ≤ length syndromes.now }
+        ensures places { places_of terms.new ≡ places_of terms.old }
+        ensures values { Valued F.Field.field (length self.now.octets.now) syndromes.now (places_of terms.old) (values_of terms.new) }
+        ensures elements { Elements F.Field.field (values_of terms.new) }
+    {
+        // Stays by index: each value is found from the places of all terms, which `terms.iter_mut()` would hold borrowed.
+        for i in 0..terms.len() {
+            let pattern = Pattern::<F> {
+                field: PhantomData,
+                word: self.octets.len(),
+                terms,
+            };
+            let value = pattern.value_at(syndromes, terms[i].place);
+            terms[i].value = value;
+        }
     }
 }
 
