@@ -1,6 +1,5 @@
 // Decoding: the message whose word is near enough to the received one.
-ghost use Rattle.std.specs.Prelude.{◌≡◌, ◌+◌, ◌%◌, ◌≤◌, length, ◌==◌};
-ghost use Rattle.std.specs.List.{list_all};
+ghost use Rattle.std.specs.Prelude.{◌≡◌, ◌+◌, ◌%◌, ◌≤◌, length};
 ghost use Rattle.coder.specs.Codes.{Decoded};
 ghost use Rattle.rs_algebra.specs.Polynomials.{Elements};
 ghost use Rattle.rs_algebra.specs.Words.{check_difference};
@@ -10,6 +9,7 @@ ghost use Rattle.reed_solomon.specs.Decoding.{Answered};
 use crate::bounds::MOST_UNKNOWNS;
 use crate::checks::Checks;
 use crate::difference::check_difference;
+use crate::linear::is_zero;
 use crate::locator::locator;
 use crate::received::Received;
 use crate::syndromes::syndromes;
@@ -17,13 +17,6 @@ use coder::Undecoded;
 use coder::sizes::MOST_CHECK;
 use field::Field;
 use std::marker::PhantomData;
-
-// Whether all octets are 0.
-fn is_zero(octets: &[u8]) -> bool
-    ensures { result ≡ list_all (λ octet. octet == 0) octets.now }
-{
-    octets.iter().all(|octet| *octet == 0)
-}
 
 impl<F: Field> Received<'_, F> {
     // Decodes a word of elements by its check difference.

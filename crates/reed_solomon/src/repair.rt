@@ -16,17 +16,16 @@ impl<F: Field> Received<'_, F> {
     // many octets of the word were wrong, or nothing if such an error does not account for the syndromes.
     pub(crate) fn repair(
         &self,
-        syndromes: &[u8],
+        syndromes: &mut [u8],
         locator: &[u8],
         message: &mut [u8],
     ) -> Option<usize>
         requires elements { Elements F.Field.field locator.now }
         requires some { (i : ℕ) × (0 < slice_index locator.now i) }
         requires room { length locator.now ≤ 9 }
-        requires enough { length locator.now ≤ length syndromes.now + 1 }
-        requires most { length syndromes.now ≤ 16 }
+        requires enough { length locator.now ≤ length syndromes.old + 1 }
         requires front { length message.old ≤ length self.now.octets.now }
-        ensures { Repaired F.Field.field self.now.octets.now syndromes.now locator.now message.old message.new result }
+        ensures { Repaired F.Field.field self.now.octets.now syndromes.old locator.now message.old message.new result }
     {
         let mut terms = [Term { place: 0, value: 0 }; MOST_REPAIRS];
         let count = self.root_places(locator, &mut terms);
@@ -34,16 +33,20 @@ impl<F: Field> Received<'_, F> {
     }
 
     // The same at the places of given terms, whose values are found.
-    fn repair_at(&self, syndromes: &[u8], terms: &mut [Term], message: &mut [u8]) -> Option<usize>
+    fn repair_at(
+        &self,
+        syndromes: &mut [u8],
+        terms: &mut [Term],
+        message: &mut [u8],
+    ) -> Option<usize>
         requires places { Places (length self.now.octets.now) (places_of terms.old) }
         requires few { length terms.old ≤ 8 }
-        requires enough { length terms.old ≤ length syndromes.now }
-        requires most { length syndromes.now ≤ 16 }
+        requires enough { length terms.old ≤ length syndromes.old }
         requires front { length message.old ≤ length self.now.octets.now }
         ensures places { places_of terms.new ≡ places_of terms.old }
-        ensures values { Valued F.Field.field (length self.now.octets.now) syndromes.now (places_of terms.old) (values_of terms.new) }
+        ensures values { Valued F.Field.field (length self.now.octets.now) syndromes.old (places_of terms.old) (values_of terms.new) }
         ensures elements { Elements F.Field.field (values_of terms.new) }
-        ensures answer { RepairedAt F.Field.field self.now.octets.now (places_of terms.old) (values_of terms.new) syndromes.now message.old message.new result }
+        ensures answer { RepairedAt F.Field.field self.now.octets.now (places_of terms.old) (values_of terms.new) syndromes.old message.old message.new result }
     {
         self.error_values(syndromes, terms);
         let pattern = Pattern::<F> {
@@ -51,7 +54,7 @@ impl<F: Field> Received<'_, F> {
             word: self.octets.len(),
             terms,
         };
-        if !pattern.explains(syndromes) {
+        if !pattern.accounts_for(syndromes) {
             return None;
         }
         message.copy_from_slice(&self.octets[..message.len()]);

@@ -75,9 +75,13 @@ fn repairs(
     mend_message(error, terms);
     message.fill(0xaa);
     let error = received(error);
-    assert_eq!(rt; error.repair(sums, &[0x01], message), None);
+    let mut spent = [0; 16];
+    let spent = &mut spent[..sums.len()];
+    spent.copy_from_slice(sums);
+    assert_eq!(rt; error.repair(spent, &[0x01], message), None);
     assert!(rt; message.iter().all(|octet| *octet != 0));
-    assert_eq!(rt; error.repair(sums, locator, message), Some(terms.len()));
+    spent.copy_from_slice(sums);
+    assert_eq!(rt; error.repair(spent, locator, message), Some(terms.len()));
     assert!(rt; message.iter().all(|octet| *octet == 0));
 }
 
@@ -111,9 +115,13 @@ fn measures(rt: &impl Abort, word: &[u8], sums: &[u8], found: &mut [Term], terms
         word: word.len(),
         terms: found,
     };
-    assert!(rt; pattern.explains(sums));
+    let mut spent = [0; 16];
+    let spent = &mut spent[..sums.len()];
+    spent.copy_from_slice(sums);
+    assert!(rt; pattern.accounts_for(spent));
     assert!(rt; sums.len() > 1);
-    assert!(rt; !pattern.explains(&sums[1..]));
+    spent.copy_from_slice(sums);
+    assert!(rt; !pattern.accounts_for(&mut spent[1..]));
 }
 
 #[test]
