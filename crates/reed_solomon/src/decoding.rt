@@ -31,6 +31,7 @@ impl<F: Field> Received<'_, F> {
             return Some(0);
         }
         let check = difference.len();
+        // Stays two rooms of fixed length: nothing here allocates.
         let mut found = [0; MOST_CHECK];
         let mut polynomial = [0; MOST_UNKNOWNS];
         let found = &mut found[..check];
@@ -52,6 +53,7 @@ pub(crate) fn decode<C: Checks>(
 {
     let numbers = coder.numbers();
     numbers.sizes.fits(message, received)?;
+    // Stays a room of fixed length: nothing here allocates.
     let mut difference = [0; MOST_CHECK];
     let difference = &mut difference[..numbers.check];
     check_difference(coder, received, difference);

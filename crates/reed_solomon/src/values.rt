@@ -43,6 +43,7 @@ impl<F: Field> Pattern<'_, F> {
         requires enough { length self.now.terms.now ≤ length syndromes.now }
         ensures { ValueFor F.Field.field self.now.word (λ j. slice_index syndromes.now j) (places_of self.now.terms.now) place result }
     {
+        // Stays a room of fixed length: nothing here allocates.
         let mut room = [0; MOST_REPAIRS];
         let polynomial = &mut room[..self.terms.len()];
         self.vanishing_elsewhere(place, polynomial);

@@ -1,4 +1,4 @@
-use Rattle.std.proofs.Common.{sym, ap, ◌∙◌, arith}
+use Rattle.std.proofs.Common.{sym, ◌∙◌, arith}
 use Rattle.std.proofs.lemmas.Bool.{false≢true}
 use Rattle.field.specs.Sums.{xor_same, xor_none}
 use Rattle.reed_solomon.proofs.Nearness.{zero_reads, reads_zero}
