@@ -1,5 +1,5 @@
 // Terms, each a value at a place: whether they make up the syndromes, and what they mend.
-ghost use Rattle.std.specs.Prelude.{◌≡◌, ℕ, ◌<◌, ◌≤◌, true, false, length, bit_xor, slice_index};
+ghost use Rattle.std.specs.Prelude.{◌≡◌, ℕ, ◌<◌, true, false, length, bit_xor, slice_index};
 ghost use Rattle.field.specs.Field.{raised};
 ghost use Rattle.rs_algebra.specs.Polynomials.{Elements};
 ghost use Rattle.rs_algebra.specs.Words.{mend, terms_at, weight};

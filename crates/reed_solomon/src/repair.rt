@@ -1,5 +1,5 @@
 // From the syndromes of a spoilt word and a locator polynomial to its message.
-ghost use Rattle.std.specs.Prelude.{◌≡◌, ℕ, ◌+◌, ◌<◌, ◌≤◌, length, slice_index};
+ghost use Rattle.std.specs.Prelude.{◌≡◌, ℕ, ◌<◌, ◌≤◌, length, slice_index};
 ghost use Rattle.rs_algebra.specs.Polynomials.{Elements};
 ghost use Rattle.rs_algebra.specs.Words.{Places};
 ghost use Rattle.reed_solomon.specs.Repairs.{Repaired, RepairedAt, Valued, places_of, values_of};
@@ -23,7 +23,6 @@ impl<F: Field> Received<'_, F> {
         requires elements { Elements F.Field.field locator.now }
         requires some { (i : ℕ) × (0 < slice_index locator.now i) }
         requires room { length locator.now ≤ 9 }
-        requires enough { length locator.now ≤ length syndromes.old + 1 }
         requires front { length message.old ≤ length self.now.octets.now }
         ensures { Repaired F.Field.field self.now.octets.now syndromes.old locator.now message.old message.new result }
     {
@@ -42,7 +41,6 @@ impl<F: Field> Received<'_, F> {
     ) -> Option<usize>
         requires places { Places (length self.now.octets.now) (places_of terms.old) }
         requires few { length terms.old ≤ 8 }
-        requires enough { length terms.old ≤ length syndromes.old }
         requires front { length message.old ≤ length self.now.octets.now }
         ensures places { places_of terms.new ≡ places_of terms.old }
         ensures values { Valued F.Field.field (length self.now.octets.now) syndromes.old (places_of terms.old) (values_of terms.new) }

@@ -1,5 +1,5 @@
 // The terms of an error.
-ghost use Rattle.std.specs.Prelude.{◌<◌};
+ghost use Rattle.std.specs.Prelude.{◌<◌, ◌≤◌, length};
 ghost use Rattle.rs_algebra.specs.Words.{Places};
 ghost use Rattle.reed_solomon.specs.Repairs.{places_of};
 
@@ -20,5 +20,6 @@ pub(crate) struct Pattern<'a, F: Field> {
     pub(crate) word: usize,
     pub(crate) terms: &'a [Term],
     ghost fits: { word < F.Field.field.size },
+    ghost few: { length terms.now ≤ 8 },
     ghost places: { Places word (places_of terms.now) },
 }

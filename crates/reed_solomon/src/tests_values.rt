@@ -68,7 +68,6 @@ fn repairs(
     requires fits { length error.old < 256 }
     requires some { 0 < slice_index locator.now 0 }
     requires room { length locator.now ≤ 9 }
-    requires enough { length locator.now ≤ length sums.now + 1 }
     requires most { length sums.now ≤ 16 }
     requires front { length message.old ≤ length error.old }
 {
@@ -104,7 +103,6 @@ fn measures(rt: &impl Abort, word: &[u8], sums: &[u8], found: &mut [Term], terms
     requires fits { length word.now < 256 }
     requires places { Places (length word.now) (places_of found.old) }
     requires few { length found.old ≤ 8 }
-    requires enough { length found.old ≤ length sums.now }
     requires most { length sums.now ≤ 16 }
 {
     received(word).error_values(sums, found);

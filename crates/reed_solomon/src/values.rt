@@ -17,7 +17,6 @@ impl<F: Field> Received<'_, F> {
     pub(crate) fn error_values(&self, syndromes: &[u8], terms: &mut [Term])
         requires places { Places (length self.now.octets.now) (places_of terms.old) }
         requires most { length terms.old ≤ 8 }
-        requires enough { length terms.old ≤ length syndromes.now }
         ensures places { places_of terms.new ≡ places_of terms.old }
         ensures values { Valued F.Field.field (length self.now.octets.now) syndromes.now (places_of terms.old) (values_of terms.new) }
         ensures elements { Elements F.Field.field (values_of terms.new) }
@@ -39,8 +38,6 @@ impl<F: Field> Pattern<'_, F> {
     // The value at one of the places: the syndromes weighed by a polynomial that vanishes at all the others, divided by its value here.
     fn value_at(&self, syndromes: &[u8], place: u8) -> u8
         requires among { (i : ℕ) × (i < length (places_of self.now.terms.now)) × (slice_index (places_of self.now.terms.now) i ≡ place) }
-        requires most { length self.now.terms.now ≤ 8 }
-        requires enough { length self.now.terms.now ≤ length syndromes.now }
         ensures { ValueFor F.Field.field self.now.word (λ j. slice_index syndromes.now j) (places_of self.now.terms.now) place result }
     {
         // Stays a room of fixed length: nothing here allocates.
