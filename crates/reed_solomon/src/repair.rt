@@ -13,7 +13,7 @@ use std::marker::PhantomData;
 
 impl<F: Field> Received<'_, F> {
     // Writes the message of a word with these syndromes, repaired at the places that the locator polynomial names. Answers how
-    // many octets of the word were wrong, or nothing if such an error does not account for the syndromes.
+    // many octets of the word were wrong, or nothing if such an error does not account for the syndromes. The syndromes are used up.
     pub(crate) fn repair(
         &self,
         syndromes: &mut [u8],
