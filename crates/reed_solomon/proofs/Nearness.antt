@@ -1,5 +1,5 @@
 -- Answers of a decoder over a field, and over octets. Assumes nothing.
-use Rattle.std.proofs.Common.{◌≡◌, ℕ, zero, suc, ◌+◌, true, List, [], ◌∷◌, length, get_or, take, Some, None, Ok, Err, Option, sym, refl, ap, ◌∙◌, arith}
+use Rattle.std.proofs.Common.{◌≡◌, ℕ, zero, suc, ◌+◌, ◌<◌, true, List, [], ◌∷◌, length, get_or, take, Some, None, Ok, Err, Option, sym, refl, ap, ◌∙◌, arith}
 use Rattle.std.specs.Prelude.{◌==◌}
 use Rattle.std.specs.List.{list_all}
 use Prim.{tt}
@@ -23,10 +23,14 @@ no_distance [] = refl
 no_distance (x ∷ a) = rw (eq-eqb x x refl) (omega (arith, no_distance a))
 
 -- where every octet is 0, each reads 0
-zero_reads : (xs : List ℕ) → list_all (λ octet. octet == 0) xs ≡ true → (k : ℕ) → get_or xs k 0 ≡ 0
+pub zero_reads : (xs : List ℕ) → list_all (λ octet. octet == 0) xs ≡ true → (k : ℕ) → get_or xs k 0 ≡ 0
 zero_reads [] all k = refl
 zero_reads (x ∷ xs) all zero = eqb-true x 0 (and_parts (x == 0) (list_all (λ octet. octet == 0) xs) all).0
 zero_reads (x ∷ xs) all (suc k) = zero_reads xs (and_parts (x == 0) (list_all (λ octet. octet == 0) xs) all).1 k
+
+pub reads_zero : (xs : List ℕ) → ((k : ℕ) → k < length xs → get_or xs k 0 ≡ 0) → list_all (λ octet. octet == 0) xs ≡ true
+reads_zero [] none = refl
+reads_zero (x ∷ xs) none = rw (eq-eqb x 0 (none 0 (omega arith))) (reads_zero xs (λ k h. none (suc k) (omega (arith, h))))
 
 module _ (f : Field) (laws : Laws f) (K R : ℕ) (received : List ℕ) where
   -- a word with no check difference is that of its first octets

@@ -1,6 +1,5 @@
 // Decoding: the message whose word is near enough to the received one.
-ghost use Rattle.std.specs.Prelude.{◌≡◌, ◌+◌, ◌%◌, ◌<◌, ◌≤◌, length, ◌==◌};
-ghost use Rattle.std.specs.List.{list_all};
+ghost use Rattle.std.specs.Prelude.{◌≡◌, ◌+◌, ◌%◌, ◌≤◌, length};
 ghost use Rattle.coder.specs.Codes.{Decoded};
 ghost use Rattle.rs_algebra.specs.Polynomials.{Elements};
 ghost use Rattle.rs_algebra.specs.Words.{check_difference};
@@ -10,44 +9,37 @@ ghost use Rattle.reed_solomon.specs.Decoding.{Answered};
 use crate::bounds::MOST_UNKNOWNS;
 use crate::checks::Checks;
 use crate::difference::check_difference;
+use crate::linear::is_zero;
 use crate::locator::locator;
-use crate::repair::repair;
+use crate::received::Received;
 use crate::syndromes::syndromes;
 use coder::Undecoded;
 use coder::sizes::MOST_CHECK;
 use field::Field;
+use std::marker::PhantomData;
 
-// Whether all octets are 0.
-fn is_zero(octets: &[u8]) -> bool
-    ensures { result ≡ list_all (λ octet. octet == 0) octets.now }
-{
-    octets.iter().all(|octet| *octet == 0)
-}
-
-// A received word of elements and its check difference.
-fn decode_difference<F: Field>(
-    received: &[u8],
-    difference: &[u8],
-    message: &mut [u8],
-) -> Option<usize>
-    requires difference_len { (length difference.now % 2 ≡ 0) × (length difference.now ≤ 16) }
-    requires received_len { length received.now ≡ length message.old + length difference.now }
-    requires received_len_bound { length received.now < F.Field.field.size }
-    requires difference_value { difference.now ≡ check_difference F.Field.field (length message.old) (length difference.now) received.now }
-    ensures { Elements F.Field.field received.now → Answered F.Field.field (length message.old) (length difference.now) received.now message.old message.new result }
-{
-    if is_zero(difference) {
-        message.copy_from_slice(&received[..message.len()]);
-        return Some(0);
+impl<F: Field> Received<'_, F> {
+    // Decodes a word of elements by its check difference.
+    fn decode_difference(&self, difference: &[u8], message: &mut [u8]) -> Option<usize>
+        requires difference_len { (length difference.now % 2 ≡ 0) × (length difference.now ≤ 16) }
+        requires received_len { length self.now.octets.now ≡ length message.old + length difference.now }
+        requires difference_value { difference.now ≡ check_difference F.Field.field (length message.old) (length difference.now) self.now.octets.now }
+        ensures { Elements F.Field.field self.now.octets.now → Answered F.Field.field (length message.old) (length difference.now) self.now.octets.now message.old message.new result }
+    {
+        if is_zero(difference) {
+            message.copy_from_slice(&self.octets[..message.len()]);
+            return Some(0);
+        }
+        let check = difference.len();
+        // Stays two rooms of fixed length: nothing here allocates.
+        let mut found = [0; MOST_CHECK];
+        let mut polynomial = [0; MOST_UNKNOWNS];
+        let found = &mut found[..check];
+        let polynomial = &mut polynomial[..check / 2 + 1];
+        syndromes::<F>(difference, found);
+        locator::<F>(found, polynomial);
+        self.repair(found, polynomial, message)
     }
-    let check = difference.len();
-    let mut found = [0; MOST_CHECK];
-    let mut polynomial = [0; MOST_UNKNOWNS];
-    let found = &mut found[..check];
-    let polynomial = &mut polynomial[..check / 2 + 1];
-    syndromes::<F>(difference, found);
-    locator::<F>(found, polynomial);
-    repair::<F>(found, polynomial, received, message)
 }
 
 // A received word of octets, where all octets are elements.
@@ -61,8 +53,15 @@ pub(crate) fn decode<C: Checks>(
 {
     let numbers = coder.numbers();
     numbers.sizes.fits(message, received)?;
+    // Stays a room of fixed length: nothing here allocates.
     let mut difference = [0; MOST_CHECK];
     let difference = &mut difference[..numbers.check];
     check_difference(coder, received, difference);
-    decode_difference::<C::Over>(received, difference, message).ok_or(Undecoded::Lost)
+    let received = Received::<C::Over> {
+        field: PhantomData,
+        octets: received,
+    };
+    received
+        .decode_difference(difference, message)
+        .ok_or(Undecoded::Lost)
 }

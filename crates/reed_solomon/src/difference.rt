@@ -1,5 +1,5 @@
 // How far the check octets received are from those of the octets before them.
-ghost use Rattle.std.specs.Prelude.{◌≡◌, ◌+◌, length};
+ghost use Rattle.std.specs.Prelude.{◌≡◌, length};
 ghost use Rattle.rs_algebra.specs.Polynomials.{plus};
 ghost use Rattle.rs_algebra.specs.Words.{check_difference};
 

@@ -13,6 +13,7 @@ mod locator;
 mod mending;
 pub mod over_octets;
 mod places;
+mod received;
 pub mod reed_solomon;
 mod register;
 mod repair;

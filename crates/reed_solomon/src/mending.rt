@@ -1,36 +1,30 @@
 // Terms, each a value at a place: whether they make up the syndromes, and what they mend.
-ghost use Rattle.std.specs.Prelude.{◌≡◌, ℕ, ◌<◌, ◌≤◌, true, false, length, bit_xor, slice_index};
+ghost use Rattle.std.specs.Prelude.{◌≡◌, ℕ, ◌<◌, true, false, length, bit_xor, slice_index};
 ghost use Rattle.field.specs.Field.{raised};
 ghost use Rattle.rs_algebra.specs.Polynomials.{Elements};
 ghost use Rattle.rs_algebra.specs.Words.{mend, terms_at, weight};
 ghost use Rattle.reed_solomon.specs.Repairs.{Passes, places_of, values_of};
 
+use crate::linear::is_zero;
 use crate::places::place_locator;
 use crate::terms::{Pattern, Term};
-use coder::sizes::MOST_CHECK;
 use field::Field;
 
-impl Pattern<'_> {
-    // Whether the error has these syndromes.
-    pub(crate) fn explains<F: Field>(&self, syndromes: &[u8]) -> bool
-        requires fits { self.now.word < F.Field.field.size }
+impl<F: Field> Pattern<'_, F> {
+    // Whether the error has these syndromes: its own are added to them, and where it has, nothing is left.
+    pub(crate) fn accounts_for(&self, syndromes: &mut [u8]) -> bool
         requires elements { Elements F.Field.field (values_of self.now.terms.now) }
-        requires most { length syndromes.now ≤ 16 }
-        ensures passes { result ≡ true → Passes F.Field.field self.now.word (places_of self.now.terms.now) (values_of self.now.terms.now) syndromes.now }
-        ensures fails { result ≡ false → Passes F.Field.field self.now.word (places_of self.now.terms.now) (values_of self.now.terms.now) syndromes.now → ⊥ }
+        ensures passes { result ≡ true → Passes F.Field.field self.now.word (places_of self.now.terms.now) (values_of self.now.terms.now) syndromes.old }
+        ensures fails { result ≡ false → Passes F.Field.field self.now.word (places_of self.now.terms.now) (values_of self.now.terms.now) syndromes.old → ⊥ }
     {
-        let mut room = [0; MOST_CHECK];
-        let sums = &mut room[..syndromes.len()];
-        self.add_terms::<F>(sums);
-        *sums == *syndromes
+        self.add_terms(syndromes);
+        is_zero(syndromes)
     }
 
-    // Writes the syndromes of the error: one running power for each term.
-    fn add_terms<F: Field>(&self, sums: &mut [u8])
-        requires fits { self.now.word < F.Field.field.size }
+    // Adds the syndromes of the error: one running power for each term.
+    fn add_terms(&self, sums: &mut [u8])
         requires elements { Elements F.Field.field (values_of self.now.terms.now) }
-        requires clear { (j : ℕ) → slice_index sums.old j ≡ 0 }
-        ensures { (j : ℕ) → j < length sums.new → slice_index sums.new j ≡ terms_at F.Field.field self.now.word (places_of self.now.terms.now) (values_of self.now.terms.now) j }
+        ensures { (j : ℕ) → j < length sums.new → slice_index sums.new j ≡ bit_xor (slice_index sums.old j) (terms_at F.Field.field self.now.word (places_of self.now.terms.now) (values_of self.now.terms.now) j) }
     {
         for term in self.terms {
             let locator = place_locator::<F>(self.word, term.place as usize);

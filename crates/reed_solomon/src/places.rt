@@ -5,33 +5,36 @@ ghost use Rattle.rs_algebra.specs.Words.{Places, locator};
 ghost use Rattle.reed_solomon.specs.Repairs.{places_of};
 ghost use Rattle.reed_solomon.specs.Roots.{RootPlaces};
 
+use crate::received::Received;
 use crate::terms::Term;
 use field::Field;
 
-// The places of a word of `word` octets at whose locators a polynomial, lowest power first and not 0, vanishes: they fill the
-// front of `terms`, in rising order, with no values yet. Returns how many there are.
-pub(crate) fn root_places<F: Field>(locator: &[u8], word: usize, terms: &mut [Term]) -> usize
-    requires fits { word < F.Field.field.size }
-    requires elements { Elements F.Field.field locator.now }
-    requires some { (i : ℕ) × (0 < slice_index locator.now i) }
-    requires room { length locator.now ≤ length terms.old + 1 }
-    ensures few { result < length locator.now }
-    ensures long { result ≤ length terms.new }
-    ensures roots { RootPlaces F.Field.field word locator.now word (places_of (take result terms.new)) }
-    ensures places { Places word (places_of (take result terms.new)) }
-{
-    // Stays with a count: of what is written through an adapter of `iter_mut` a proof knows nothing, and `collect` needs a heap.
-    let mut count = 0;
-    for place in 0..word {
-        if low_value::<F>(locator, place_locator::<F>(word, place)) == 0 {
-            terms[count] = Term {
-                place: place as u8,
-                value: 0,
-            };
-            count += 1;
+impl<F: Field> Received<'_, F> {
+    // The places of the word at whose locators a polynomial, lowest power first and not 0, vanishes: they fill the
+    // front of `terms`, in rising order, with no values yet. Returns how many there are.
+    pub(crate) fn root_places(&self, locator: &[u8], terms: &mut [Term]) -> usize
+        requires elements { Elements F.Field.field locator.now }
+        requires some { (i : ℕ) × (0 < slice_index locator.now i) }
+        requires room { length locator.now ≤ length terms.old + 1 }
+        ensures few { result < length locator.now }
+        ensures long { result ≤ length terms.new }
+        ensures roots { RootPlaces F.Field.field (length self.now.octets.now) locator.now (length self.now.octets.now) (places_of (take result terms.new)) }
+        ensures places { Places (length self.now.octets.now) (places_of (take result terms.new)) }
+    {
+        let word = self.octets.len();
+        // Stays with a count: of what is written through an adapter of `iter_mut` a proof knows nothing, and `collect` needs a heap.
+        let mut count = 0;
+        for place in 0..word {
+            if low_value::<F>(locator, place_locator::<F>(word, place)) == 0 {
+                terms[count] = Term {
+                    place: place as u8,
+                    value: 0,
+                };
+                count += 1;
+            }
         }
+        count
     }
-    count
 }
 
 // The locator of a place of a word of `word` octets.

@@ -1,65 +1,63 @@
 // From the syndromes of a spoilt word and a locator polynomial to its message.
-ghost use Rattle.std.specs.Prelude.{◌≡◌, ℕ, ◌+◌, ◌<◌, ◌≤◌, length, slice_index};
+ghost use Rattle.std.specs.Prelude.{◌≡◌, ℕ, ◌<◌, ◌≤◌, length, slice_index};
 ghost use Rattle.rs_algebra.specs.Polynomials.{Elements};
 ghost use Rattle.rs_algebra.specs.Words.{Places};
 ghost use Rattle.reed_solomon.specs.Repairs.{Repaired, RepairedAt, Valued, places_of, values_of};
 
 use crate::bounds::MOST_REPAIRS;
 use crate::mending::{count_nonzero, mend_message};
-use crate::places::root_places;
+use crate::received::Received;
 use crate::terms::{Pattern, Term};
-use crate::values::error_values;
 use field::Field;
+use std::marker::PhantomData;
 
-// Writes the message of a received word with these syndromes, repaired at the places that the locator polynomial names. Answers how
-// many octets of the word were wrong, or nothing if such an error does not account for the syndromes.
-pub(crate) fn repair<F: Field>(
-    syndromes: &[u8],
-    locator: &[u8],
-    received: &[u8],
-    message: &mut [u8],
-) -> Option<usize>
-    requires fits { length received.now < F.Field.field.size }
-    requires elements { Elements F.Field.field locator.now }
-    requires some { (i : ℕ) × (0 < slice_index locator.now i) }
-    requires room { length locator.now ≤ 9 }
-    requires enough { length locator.now ≤ length syndromes.now + 1 }
-    requires most { length syndromes.now ≤ 16 }
-    requires front { length message.old ≤ length received.now }
-    ensures { Repaired F.Field.field received.now syndromes.now locator.now message.old message.new result }
-{
-    let mut terms = [Term { place: 0, value: 0 }; MOST_REPAIRS];
-    let count = root_places::<F>(locator, received.len(), &mut terms);
-    repair_at::<F>(syndromes, received, &mut terms[..count], message)
-}
-
-// The same at the places of given terms, whose values are found.
-fn repair_at<F: Field>(
-    syndromes: &[u8],
-    received: &[u8],
-    terms: &mut [Term],
-    message: &mut [u8],
-) -> Option<usize>
-    requires fits { length received.now < F.Field.field.size }
-    requires places { Places (length received.now) (places_of terms.old) }
-    requires few { length terms.old ≤ 8 }
-    requires enough { length terms.old ≤ length syndromes.now }
-    requires most { length syndromes.now ≤ 16 }
-    requires front { length message.old ≤ length received.now }
-    ensures places { places_of terms.new ≡ places_of terms.old }
-    ensures values { Valued F.Field.field (length received.now) syndromes.now (places_of terms.old) (values_of terms.new) }
-    ensures elements { Elements F.Field.field (values_of terms.new) }
-    ensures answer { RepairedAt F.Field.field received.now (places_of terms.old) (values_of terms.new) syndromes.now message.old message.new result }
-{
-    error_values::<F>(syndromes, received.len(), terms);
-    let pattern = Pattern {
-        word: received.len(),
-        terms,
-    };
-    if !pattern.explains::<F>(syndromes) {
-        return None;
+impl<F: Field> Received<'_, F> {
+    // Writes the message of a word with these syndromes, repaired at the places that the locator polynomial names. Answers how
+    // many octets of the word were wrong, or nothing if such an error does not account for the syndromes. The syndromes are used up.
+    pub(crate) fn repair(
+        &self,
+        syndromes: &mut [u8],
+        locator: &[u8],
+        message: &mut [u8],
+    ) -> Option<usize>
+        requires elements { Elements F.Field.field locator.now }
+        requires some { (i : ℕ) × (0 < slice_index locator.now i) }
+        requires room { length locator.now ≤ 9 }
+        requires front { length message.old ≤ length self.now.octets.now }
+        ensures { Repaired F.Field.field self.now.octets.now syndromes.old locator.now message.old message.new result }
+    {
+        // Stays a room of fixed length: nothing here allocates.
+        let mut terms = [Term { place: 0, value: 0 }; MOST_REPAIRS];
+        let count = self.root_places(locator, &mut terms);
+        self.repair_at(syndromes, &mut terms[..count], message)
     }
-    message.copy_from_slice(&received[..message.len()]);
-    mend_message(message, terms);
-    Some(count_nonzero(terms))
+
+    // The same at the places of given terms, whose values are found.
+    fn repair_at(
+        &self,
+        syndromes: &mut [u8],
+        terms: &mut [Term],
+        message: &mut [u8],
+    ) -> Option<usize>
+        requires places { Places (length self.now.octets.now) (places_of terms.old) }
+        requires few { length terms.old ≤ 8 }
+        requires front { length message.old ≤ length self.now.octets.now }
+        ensures places { places_of terms.new ≡ places_of terms.old }
+        ensures values { Valued F.Field.field (length self.now.octets.now) syndromes.old (places_of terms.old) (values_of terms.new) }
+        ensures elements { Elements F.Field.field (values_of terms.new) }
+        ensures answer { RepairedAt F.Field.field self.now.octets.now (places_of terms.old) (values_of terms.new) syndromes.old message.old message.new result }
+    {
+        self.error_values(syndromes, terms);
+        let pattern = Pattern::<F> {
+            field: PhantomData,
+            word: self.octets.len(),
+            terms,
+        };
+        if !pattern.accounts_for(syndromes) {
+            return None;
+        }
+        message.copy_from_slice(&self.octets[..message.len()]);
+        mend_message(message, terms);
+        Some(count_nonzero(terms))
+    }
 }

@@ -1,16 +1,16 @@
 // Errors at known places: found, measured, checked and mended.
-ghost use Rattle.std.specs.Prelude.{◌+◌, ◌<◌, ◌≤◌, length, slice_index};
+ghost use Rattle.std.specs.Prelude.{◌≡◌, ◌+◌, ◌<◌, ◌≤◌, length, slice_index};
 ghost use Rattle.rs_algebra.specs.Words.{Places};
 ghost use Rattle.reed_solomon.specs.Repairs.{places_of};
 
 use crate::mending::{count_nonzero, mend_message};
-use crate::places::{low_value, root_places};
-use crate::repair::repair;
+use crate::places::low_value;
+use crate::received::Received;
 use crate::syndromes::syndromes;
 use crate::terms::{Pattern, Term};
-use crate::values::error_values;
 use field::Table;
 use std::array;
+use std::marker::PhantomData;
 use std::process::Abort;
 
 // Terms with these values at these places.
@@ -21,6 +21,17 @@ fn terms<const N: usize>(places: [u8; N], values: [u8; N]) -> [Term; N] {
     })
 }
 
+// A word over the octets.
+fn received(octets: &[u8]) -> Received<'_, Table>
+    requires { length octets.now < 256 }
+    ensures { result.octets.now ≡ octets.now }
+{
+    Received {
+        field: PhantomData,
+        octets,
+    }
+}
+
 // An error of one octet or more in a word of `word` octets: a locator polynomial and the syndromes give back its terms.
 fn gives_back(rt: &impl Abort, word: usize, locator: &[u8], sums: &[u8], terms: &[Term]) {
     assert!(rt; word < 256 && sums.len() <= 16);
@@ -28,11 +39,11 @@ fn gives_back(rt: &impl Abort, word: usize, locator: &[u8], sums: &[u8], terms: 
     assert!(rt; 0 < locator[0]);
     has_syndromes(rt, word, sums, terms);
     let mut found = [Term { place: 0, value: 0 }; 8];
-    let count = root_places::<Table>(locator, word, &mut found);
-    assert!(rt; count <= sums.len());
-    measures(rt, word, sums, &mut found[..count], terms);
-    assert!(rt; locator.len() <= sums.len() + 1 && sums.len() <= word);
     let mut error = [0; 255];
+    let count = received(&error[..word]).root_places(locator, &mut found);
+    assert!(rt; count <= sums.len());
+    measures(rt, &error[..word], sums, &mut found[..count], terms);
+    assert!(rt; locator.len() <= sums.len() + 1 && sums.len() <= word);
     let mut message = [0; 255];
     let frame = word - sums.len();
     repairs(
@@ -57,18 +68,19 @@ fn repairs(
     requires fits { length error.old < 256 }
     requires some { 0 < slice_index locator.now 0 }
     requires room { length locator.now ≤ 9 }
-    requires enough { length locator.now ≤ length sums.now + 1 }
     requires most { length sums.now ≤ 16 }
     requires front { length message.old ≤ length error.old }
 {
     mend_message(error, terms);
     message.fill(0xaa);
-    assert_eq!(rt; repair::<Table>(sums, &[0x01], error, message), None);
+    let error = received(error);
+    let mut spent = [0; 16];
+    let spent = &mut spent[..sums.len()];
+    spent.copy_from_slice(sums);
+    assert_eq!(rt; error.repair(spent, &[0x01], message), None);
     assert!(rt; message.iter().all(|octet| *octet != 0));
-    assert_eq!(rt;
-        repair::<Table>(sums, locator, error, message),
-        Some(terms.len())
-    );
+    spent.copy_from_slice(sums);
+    assert_eq!(rt; error.repair(spent, locator, message), Some(terms.len()));
     assert!(rt; message.iter().all(|octet| *octet == 0));
 }
 
@@ -87,20 +99,27 @@ fn spoils(rt: &impl Abort, error: &mut [u8], made: &mut [u8], terms: &[Term], su
     assert!(rt; *made == *sums);
 }
 
-fn measures(rt: &impl Abort, word: usize, sums: &[u8], found: &mut [Term], terms: &[Term])
-    requires fits { word < 256 }
-    requires places { Places word (places_of found.old) }
+fn measures(rt: &impl Abort, word: &[u8], sums: &[u8], found: &mut [Term], terms: &[Term])
+    requires fits { length word.now < 256 }
+    requires places { Places (length word.now) (places_of found.old) }
     requires few { length found.old ≤ 8 }
-    requires enough { length found.old ≤ length sums.now }
     requires most { length sums.now ≤ 16 }
 {
-    error_values::<Table>(sums, word, found);
+    received(word).error_values(sums, found);
     assert!(rt; *found == *terms);
     assert_eq!(rt; count_nonzero(found), terms.len());
-    let pattern = Pattern { word, terms: found };
-    assert!(rt; pattern.explains::<Table>(sums));
+    let pattern = Pattern::<Table> {
+        field: PhantomData,
+        word: word.len(),
+        terms: found,
+    };
+    let mut spent = [0; 16];
+    let spent = &mut spent[..sums.len()];
+    spent.copy_from_slice(sums);
+    assert!(rt; pattern.accounts_for(spent));
     assert!(rt; sums.len() > 1);
-    assert!(rt; !pattern.explains::<Table>(&sums[1..]));
+    spent.copy_from_slice(sums);
+    assert!(rt; !pattern.accounts_for(&mut spent[1..]));
 }
 
 #[test]

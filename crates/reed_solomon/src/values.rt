@@ -7,47 +7,49 @@ ghost use Rattle.reed_solomon.specs.Repairs.{Valued, places_of, values_of};
 use crate::bounds::MOST_REPAIRS;
 use crate::linear::weighed_sum;
 use crate::places::{low_value, place_locator};
+use crate::received::Received;
 use crate::terms::{Pattern, Term};
 use field::Field;
+use std::marker::PhantomData;
 
-// Sets the values that an error with these syndromes has if it is nowhere but at the terms' places of a word of `word` octets.
-// Stays with `word` beside the terms: a pattern lends its terms, and here they are written.
-pub(crate) fn error_values<F: Field>(syndromes: &[u8], word: usize, terms: &mut [Term])
-    requires fits { word < F.Field.field.size }
-    requires places { Places word (places_of terms.old) }
-    requires most { length terms.old ≤ 8 }
-    requires enough { length terms.old ≤ length syndromes.now }
-    ensures places { places_of terms.new ≡ places_of terms.old }
-    ensures values { Valued F.Field.field word syndromes.now (places_of terms.old) (values_of terms.new) }
-    ensures elements { Elements F.Field.field (values_of terms.new) }
-{
-    // Stays by index: each value is found from the places of all terms, which `terms.iter_mut()` would hold borrowed.
-    for i in 0..terms.len() {
-        let pattern = Pattern { word, terms };
-        let value = pattern.value_at::<F>(syndromes, terms[i].place);
-        terms[i].value = value;
+impl<F: Field> Received<'_, F> {
+    // Sets the values that an error with these syndromes has if it is nowhere but at the terms' places of the word.
+    pub(crate) fn error_values(&self, syndromes: &[u8], terms: &mut [Term])
+        requires places { Places (length self.now.octets.now) (places_of terms.old) }
+        requires most { length terms.old ≤ 8 }
+        ensures places { places_of terms.new ≡ places_of terms.old }
+        ensures values { Valued F.Field.field (length self.now.octets.now) syndromes.now (places_of terms.old) (values_of terms.new) }
+        ensures elements { Elements F.Field.field (values_of terms.new) }
+    {
+        // Stays by index: each value is found from the places of all terms, which `terms.iter_mut()` would hold borrowed.
+        for i in 0..terms.len() {
+            let pattern = Pattern::<F> {
+                field: PhantomData,
+                word: self.octets.len(),
+                terms,
+            };
+            let value = pattern.value_at(syndromes, terms[i].place);
+            terms[i].value = value;
+        }
     }
 }
 
-impl Pattern<'_> {
+impl<F: Field> Pattern<'_, F> {
     // The value at one of the places: the syndromes weighed by a polynomial that vanishes at all the others, divided by its value here.
-    fn value_at<F: Field>(&self, syndromes: &[u8], place: u8) -> u8
-        requires fits { self.now.word < F.Field.field.size }
+    fn value_at(&self, syndromes: &[u8], place: u8) -> u8
         requires among { (i : ℕ) × (i < length (places_of self.now.terms.now)) × (slice_index (places_of self.now.terms.now) i ≡ place) }
-        requires most { length self.now.terms.now ≤ 8 }
-        requires enough { length self.now.terms.now ≤ length syndromes.now }
         ensures { ValueFor F.Field.field self.now.word (λ j. slice_index syndromes.now j) (places_of self.now.terms.now) place result }
     {
+        // Stays a room of fixed length: nothing here allocates.
         let mut room = [0; MOST_REPAIRS];
         let polynomial = &mut room[..self.terms.len()];
-        self.vanishing_elsewhere::<F>(place, polynomial);
+        self.vanishing_elsewhere(place, polynomial);
         let here = low_value::<F>(polynomial, place_locator::<F>(self.word, place as usize));
         F::times(weighed_sum::<F>(polynomial, syndromes), F::inverse(here))
     }
 
     // Writes a polynomial, lowest power first, that vanishes at the locators of all the places but one.
-    fn vanishing_elsewhere<F: Field>(&self, place: u8, polynomial: &mut [u8])
-        requires fits { self.now.word < F.Field.field.size }
+    fn vanishing_elsewhere(&self, place: u8, polynomial: &mut [u8])
         requires among { (i : ℕ) × (i < length (places_of self.now.terms.now)) × (slice_index (places_of self.now.terms.now) i ≡ place) }
         requires room { length self.now.terms.now ≡ length polynomial.old }
         ensures { Missing F.Field.field self.now.word place (places_of self.now.terms.now) polynomial.new }

@@ -14,6 +14,7 @@ fn unit(place: usize) -> [u8; MOST_UNKNOWNS]
     requires { place < 9 }
     ensures { result ≡ slice_set (zeros 9) place 1 }
 {
+    // Stays a room of fixed length: nothing here allocates.
     let mut vector = [0; MOST_UNKNOWNS];
     vector[place] = 1;
     vector
@@ -21,7 +22,6 @@ fn unit(place: usize) -> [u8; MOST_UNKNOWNS]
 
 // Adds to the front of a row so much of the pivot that it meets the equation; `inverse` is that of what the equation gives at the pivot.
 fn clear<F: Field>(row: &mut [u8], pivot: &[u8], inverse: u8, equation: &[u8])
-    requires inside { length pivot.now ≤ length equation.now }
     requires long { length pivot.now ≤ length row.old }
     requires inverse { inverse ≡ F.Field.field.inverse (weighed F.Field.field pivot.now (held equation.now) 0) }
     ensures { take (length pivot.now) row.new ≡ cleared F.Field.field (held equation.now) 0 pivot.now (take (length pivot.now) row.old) }
@@ -33,7 +33,6 @@ fn clear<F: Field>(row: &mut [u8], pivot: &[u8], inverse: u8, equation: &[u8])
 
 // The same for each row.
 fn eliminate<F: Field>(rows: &mut [[u8; MOST_UNKNOWNS]], pivot: &[u8], equation: &[u8])
-    requires inside { length pivot.now ≤ length equation.now }
     requires narrow { length pivot.now ≤ 9 }
     ensures { (k : ℕ) → k < length rows.old → front (length pivot.now) rows.new k ≡ cleared F.Field.field (held equation.now) 0 pivot.now (front (length pivot.now) rows.old k) }
 {
@@ -60,7 +59,6 @@ impl Vectors {
 
     // The first vector that does not meet the equation.
     fn pivot<F: Field>(&self, equation: &[u8]) -> Option<usize>
-        requires { self.now.width ≤ length equation.now }
         ensures { FirstOff F.Field.field (held equation.now) 0 self.now result }
     {
         self.rows[..self.kept]
@@ -71,7 +69,7 @@ impl Vectors {
     // Leaves one vector fewer, all of which meet the equation of this number too.
     pub(crate) fn meet<F: Field>(&mut self, syndromes: &[u8], number: usize)
         requires some { 0 < self.old.kept }
-        requires inside { number + self.old.width ≤ length syndromes.now }
+        requires inside { number ≤ length syndromes.now }
         requires met { Solve F.Field.field (held syndromes.now) number self.old }
         ensures width { self.new.width ≡ self.old.width }
         ensures kept { self.new.kept + 1 ≡ self.old.kept }

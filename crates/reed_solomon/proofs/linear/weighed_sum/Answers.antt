@@ -12,4 +12,4 @@ returns g c =
     let s = c.args.numbers.now in
     fold_from_yields_List _ (λ a (p : ℕ × ℕ). bit_xor a (f.times p.0 p.1)) 0 c.fold.result c.fold.ensures.ran
     (YieldsList-from_zip (YieldsList-from_slice l cc) (YieldsList-from_slice s cc)) (λ a x b q k. search (rules, tests))
-    ∙ weighed_folded f l s c.requires
+    ∙ weighed_folded f g.met.F.Field.laws l s

@@ -39,7 +39,7 @@ loop-other-preserved g c =
     elim c.if-other-place.branch [
       | then-other-place w ↦
           rw w.polynomial-is
-          (more f laws N k ws i h xs c.loop-other.invariant among wide c.requires.fits here (c.args.self.now.places.inside i h)
+          (more f laws N k ws i h xs c.loop-other.invariant among wide c.args.self.now.fits here (c.args.self.now.places.inside i h)
           (λ e. w.if-other-place.true (sym at ∙ e)) w.place_locator-locator.result w.times_root.new.polynomial
           (w.place_locator-locator.ensures ∙ ap (locator f N) (sym at)) w.times_root.ensures)
       | else-other-place w ↦

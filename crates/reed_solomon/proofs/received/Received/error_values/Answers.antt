@@ -8,12 +8,12 @@ use Rattle.reed_solomon.specs.Repairs.{places_of, values_of}
 use Rattle.reed_solomon.proofs.Filling.{Filled, filled_more}
 use Rattle.reed_solomon.proofs.Elsewhere.{value_element}
 use Rattle.reed_solomon.proofs.OneMore.{none, place_at}
-use Rattle.reed_solomon.proofs.values.error_values.Goals as goal
+use Rattle.reed_solomon.proofs.received.Received.error_values.Goals as goal
 
 pub loop-i-preserved : goal.loop-i-preserved
 loop-i-preserved g c =
     let f = g.F.Field.field in
-    let N = c.args.word in
+    let N = (length c.args.self.now.octets.now) in
     let ws = places_of c.args.terms.now in
     let ts = c.loop-i.terms in
     let i = c.loop-i.i in
@@ -42,5 +42,5 @@ returns-clause-elements g c =
     let vs = values_of c.loop-i.terms in
     let S : ℕ → ℕ = λ j. get_or c.args.syndromes.now j 0 in
     elements_within f laws vs
-    (λ i h. value_element f laws c.args.word (get_or ws i 0) S ws (get_or vs i 0)
+    (λ i h. value_element f laws (length c.args.self.now.octets.now) (get_or ws i 0) S ws (get_or vs i 0)
     (c.loop-i.invariant.1 i (omega (arith, length-map c.loop-i.terms (λ (t : Term). t.value)))))

@@ -6,8 +6,8 @@ use Rattle.reed_solomon.specs.declared.terms.Term.{Term}
 use Rattle.reed_solomon.specs.Repairs.{places_of}
 use Rattle.reed_solomon.specs.Roots.{RootPlaces}
 use Rattle.reed_solomon.proofs.Rooted.{rooted_same, rooted_places, found_few, found_more}
-use Rattle.reed_solomon.proofs.places.root_places.Goals as goal
-use Rattle.reed_solomon.proofs.places.root_places.Goals.{then-low_value-eq0, else-low_value-eq0}
+use Rattle.reed_solomon.proofs.received.Received.root_places.Goals as goal
+use Rattle.reed_solomon.proofs.received.Received.root_places.Goals.{then-low_value-eq0, else-low_value-eq0}
 
 pub bounds-terms-count : goal.bounds-terms-count
 bounds-terms-count g c =
@@ -15,10 +15,10 @@ bounds-terms-count g c =
     let l = c.args.locator.now in
     let ts = c.loop-place.terms in
     let many = length-map ts (λ (t : Term). t.place) in
-    let value : low_at f l (locator f c.args.word c.loop-place.place) ≡ c.low_value.result
+    let value : low_at f l (locator f (length c.args.self.now.octets.now) c.loop-place.place) ≡ c.low_value.result
     = ap (low_at f l) (sym c.place_locator.ensures) ∙ sym c.low_value.ensures in
     let more
-    = found_more f c.args.word l g.met.F.Field.laws c.requires.some.0 c.requires.fits c.requires.elements c.requires.some.1
+    = found_more f (length c.args.self.now.octets.now) l g.met.F.Field.laws c.requires.some.0 c.args.self.now.fits c.requires.elements c.requires.some.1
     c.loop-place.place c.loop-place.count (places_of ts) (omega (arith, c.loop-place.invariant.0, many)) c.loop-place.invariant.1
     (omega arith) (value ∙ c.if-low_value-eq0.true) (omega (arith, c.requires.room, many)) in
     omega (arith, more.0, many)
@@ -26,7 +26,7 @@ bounds-terms-count g c =
 pub loop-place-preserved : goal.loop-place-preserved
 loop-place-preserved g c =
     let f = g.F.Field.field in
-    let N = c.args.word in
+    let N = (length c.args.self.now.octets.now) in
     let l = c.args.locator.now in
     let n = c.loop-place.place in
     let count = c.loop-place.count in
@@ -42,7 +42,7 @@ loop-place-preserved g c =
           let root : low_at f l (locator f N n) ≡ 0 = value ∙ w.if-low_value-eq0.true in
           let y : Term = record { place = n; value = 0 } in
           let more
-          = found_more f N l g.met.F.Field.laws c.requires.some.0 c.requires.fits c.requires.elements c.requires.some.1 n count xs long c.loop-place.invariant.1 inside root room in
+          = found_more f N l g.met.F.Field.laws c.requires.some.0 c.args.self.now.fits c.requires.elements c.requires.some.1 n count xs long c.loop-place.invariant.1 inside root room in
           let told : places_of (set ts count y) ≡ set xs count n = map-set (λ (t : Term). t.place) ts count y in
           (omega (arith, w.count-is, more.0, many), rw (w.count-is, w.terms-is, told) more.1)
       | else-low_value-eq0 w ↦
@@ -53,7 +53,7 @@ loop-place-preserved g c =
 pub returns : goal.returns
 returns g c =
     let f = g.F.Field.field in
-    let N = c.args.word in
+    let N = (length c.args.self.now.octets.now) in
     let l = c.args.locator.now in
     let count = c.loop-place.count in
     let ts = c.loop-place.terms in
@@ -63,7 +63,7 @@ returns g c =
     let found : RootPlaces f N l N (take count xs) = rw end at c.loop-place.invariant.1 in
     let front : take count xs ≡ places_of (take count ts) = take-map (λ (t : Term). t.place) count ts in
     record {
-      few = found_few f N l g.met.F.Field.laws c.requires.some.0 c.requires.fits c.requires.elements c.requires.some.1 N count xs long found (omega arith);
+      few = found_few f N l g.met.F.Field.laws c.requires.some.0 c.args.self.now.fits c.requires.elements c.requires.some.1 N count xs long found (omega arith);
       long = omega (arith, c.loop-place.invariant.0);
       roots = rw front at found;
       places = rw front at (rooted_places f N l N (take count xs) found (omega arith));

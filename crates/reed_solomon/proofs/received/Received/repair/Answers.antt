@@ -2,7 +2,7 @@ use Rattle.std.proofs.Common.{take, arith, length-take}
 use Rattle.std.proofs.lemmas.List.{length-map}
 use Rattle.reed_solomon.specs.declared.terms.Term.{Term}
 use Rattle.reed_solomon.specs.Repairs.{places_of, values_of}
-use Rattle.reed_solomon.proofs.repair.repair.Goals as goal
+use Rattle.reed_solomon.proofs.received.Received.repair.Goals as goal
 
 pub returns : goal.returns
 returns g c =
