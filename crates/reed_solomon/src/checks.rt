@@ -5,10 +5,10 @@ ghost use Rattle.reed_solomon.specs.declared.reed_solomon.ReedSolomon.{ReedSolom
 
 use crate::reed_solomon::ReedSolomon;
 use crate::register::remainder;
-use field::OctetField;
+use field::Field;
 
 pub(crate) trait Checks: Sized {
-    type Over: OctetField;
+    type Over: Field;
 
     ghost numbers: { Self → Numbers Self.Over };
 
@@ -22,7 +22,7 @@ pub(crate) trait Checks: Sized {
         ensures { out.new ≡ check_of Self.Over.field (length out.old) message.now };
 }
 
-impl<F: OctetField> Checks for ReedSolomon<F> {
+impl<F: Field> Checks for ReedSolomon<F> {
     type Over = F;
 
     ghost numbers = { λ s. s };

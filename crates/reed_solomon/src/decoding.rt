@@ -1,5 +1,5 @@
 // Decoding: the message whose word is near enough to the received one.
-ghost use Rattle.std.specs.Prelude.{◌≡◌, ◌+◌, ◌%◌, ◌≤◌, length};
+ghost use Rattle.std.specs.Prelude.{◌≡◌, ◌+◌, ◌%◌, ◌<◌, ◌≤◌, length};
 ghost use Rattle.coder.specs.Codes.{Decoded};
 ghost use Rattle.rs_algebra.specs.Polynomials.{Elements};
 ghost use Rattle.rs_algebra.specs.Words.{check_difference};
@@ -15,7 +15,7 @@ use crate::received::Received;
 use crate::syndromes::syndromes;
 use coder::Undecoded;
 use coder::sizes::MOST_CHECK;
-use field::Field;
+use field::{Field, OctetField};
 use std::marker::PhantomData;
 
 impl<F: Field> Received<'_, F> {
@@ -42,6 +42,24 @@ impl<F: Field> Received<'_, F> {
     }
 }
 
+// A received word of elements of the coder's field.
+fn decode_elements<C: Checks>(coder: &C, received: &[u8], message: &mut [u8]) -> Option<usize>
+    requires message_len { length message.old ≡ (C.numbers coder.now).sizes.frame }
+    requires received_len { length received.now ≡ (C.numbers coder.now).sizes.word }
+    requires short { length received.now < C.Over.Field.field.size }
+    ensures { Elements C.Over.Field.field received.now → Answered C.Over.Field.field (length message.old) (C.numbers coder.now).check received.now message.old message.new result }
+{
+    // Stays a room of fixed length: nothing here allocates.
+    let mut difference = [0; MOST_CHECK];
+    let difference = &mut difference[..coder.numbers().check];
+    check_difference(coder, received, difference);
+    let received = Received::<C::Over> {
+        field: PhantomData,
+        octets: received,
+    };
+    received.decode_difference(difference, message)
+}
+
 // A received word of octets, where all octets are elements.
 #[tactic(auto, using(crate::proofs::Nearness::found, crate::proofs::Nearness::lost))]
 pub(crate) fn decode<C: Checks>(
@@ -49,19 +67,10 @@ pub(crate) fn decode<C: Checks>(
     received: &[u8],
     message: &mut [u8],
 ) -> Result<usize, Undecoded>
+where
+    C::Over: OctetField,
     ensures { Decoded (code_over C.Over.Field.field (C.numbers coder.now)) received.now message.old message.new result }
 {
-    let numbers = coder.numbers();
-    numbers.sizes.fits(message, received)?;
-    // Stays a room of fixed length: nothing here allocates.
-    let mut difference = [0; MOST_CHECK];
-    let difference = &mut difference[..numbers.check];
-    check_difference(coder, received, difference);
-    let received = Received::<C::Over> {
-        field: PhantomData,
-        octets: received,
-    };
-    received
-        .decode_difference(difference, message)
-        .ok_or(Undecoded::Lost)
+    coder.numbers().sizes.fits(message, received)?;
+    decode_elements(coder, received, message).ok_or(Undecoded::Lost)
 }
