@@ -7,7 +7,7 @@ use crate::sizes::{LONGEST_WORD, MOST_CHECK, Sizes};
 
 const SHORTEST_FRAME: usize = 3;
 
-const LONGEST_THREEFOLD: usize = 85;
+const LONGEST_THREEFOLD: usize = LONGEST_WORD / 3;
 
 impl Sizes {
     // Reed-Solomon with `check` check octets.

@@ -2,7 +2,7 @@
 ghost use Rattle.std.specs.Prelude.{◌≡◌};
 ghost use Rattle.coder.specs.Arrivals.{value_of};
 
-// Stays an enum of its own: the project asks for arrivals as one, and a host reads Lost where None would not say what is missing.
+// Stays an enum of its own: the project's calls name arrivals so, and `Lost` says what None would not.
 #[derive(Clone, Copy, PartialEq, Eq, Debug)]
 pub enum Arrival {
     Octet(u8),

@@ -13,7 +13,7 @@ pub enum Undecoded {
 }
 
 impl Undecoded {
-    // Stays a match: an enum with a value in one of its cases has no numbers of its own.
+    // Stays a match: `as` takes an enum only where no case has a value.
     pub fn number(self) -> u8
         ensures { result ≡ undecoded_number self }
     {

@@ -8,7 +8,7 @@ use crate::triangle::Triangle;
 use coder::Misfit;
 use std::mem;
 
-// By copies: the library's `fill` would require of every element type that its `clone` cannot fail.
+// Stays a function of its own: the library's `fill` would require of every element type that its `clone` cannot fail.
 fn fill<E: Copy>(memory: &mut [E], empty: E)
     ensures { memory.new ≡ replicate (length memory.old) empty }
 {

@@ -11,7 +11,7 @@ pub fn value_at<F: Field>(polynomial: &[u8], x: u8) -> u8
     horner::<F>(polynomial, x)
 }
 
-// Stays a worker of `value_at`: its loop has an answer file, and the public function must be refused at its own line when it goes wrong.
+// Stays a worker of `value_at`: the edit `value_elsewhere` must be refused at that function's line, and not in the answers of this loop.
 #[tactic(auto, using(crate::proofs::Facts::times_zero, crate::proofs::Facts::horner_step), unfolding(crate::specs::Polynomials::value_at))]
 fn horner<F: Field>(polynomial: &[u8], x: u8) -> u8
     ensures { result ≡ value_at F.Field.field polynomial.now x }

@@ -13,6 +13,7 @@ const ALPHA: u8 = 2;
 
 pub struct Shifting;
 
+// Stays with workers below: a trait's method has the trait's contract, and these have answers of their own, in which no edit may be refused.
 impl Field for Shifting {
     ghost field = { octets };
 

@@ -46,6 +46,7 @@ const LOGARITHMS: &[u8; 256] = b"\
 
 pub struct Table;
 
+// Stays with workers below: a trait's method has the trait's contract, and these have answers of their own, in which no edit may be refused.
 impl Field for Table {
     ghost field = { octets };
 

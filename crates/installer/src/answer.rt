@@ -8,6 +8,7 @@ use coder::{Kind, Refusal};
 use setting::Setting;
 
 // What is said of a setting.
+// Stays a function: it searches for the burst limit, which is more than a conversion.
 fn reported(setting: &Setting) -> Report
     ensures { Reports (plan setting.now) result }
 {

@@ -11,7 +11,7 @@ use setting::Setting;
 const MOST_WORDS: usize = 1000000;
 
 // The coder's frames, and how many octets it repairs.
-// Stays with setting and coder apart, here and below: a host lends them apart, and a pair of them would be made for one test.
+// Stays with setting and coder apart, here and in limit.rt: a state owns the setting and a host lends the coder, so a pair would be made anew in each call.
 pub(crate) fn frames_fit<C: Coder>(setting: &Setting, coder: &C) -> bool
     ensures { result ≡ ((C.Coder.code coder.now).sizes.frame == setting.now.sizes.frame && (C.Coder.code coder.now).sizes.repairs == setting.now.sizes.repairs) }
 {

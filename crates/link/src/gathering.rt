@@ -47,7 +47,7 @@ pub(crate) fn next_word(
     requires calls_bound { calls < 16777216 }
     ensures { Gathered (plan setting.now) (calls * setting.now.parts) memory.old memory.new line.now (take setting.now.sizes.word result) }
 {
-    // Stays a room of fixed length: nothing here allocates.
+    // Stays a room of fixed length: nothing here allocates, and no crate is used but std.
     let mut room = [Arrival::Lost; LONGEST_WORD];
     let word = &mut room[..line.len()];
     word.copy_from_slice(line);

@@ -4,6 +4,7 @@ ghost use Rattle.link.specs.Losses.{cause_number, unreceived_number};
 ghost use Rattle.link.specs.declared.loss.Unreceived.TheVariants.{Refused as NotTaken};
 
 use crate::refused::Refused;
+use coder::Undecoded;
 
 #[derive(Clone, Copy, PartialEq, Eq, Debug)]
 pub enum Cause {
@@ -36,19 +37,19 @@ impl From<Refused> for Unreceived {
 }
 
 impl Cause {
-    // Stays a match: an enum with a value in one of its cases has no numbers of its own.
+    // Stays a match: `as` takes an enum only where no case has a value.
     pub fn number(self) -> u8
         ensures { result ≡ cause_number self }
     {
         match self {
-            Cause::Coder(_) => 8,
+            Cause::Coder(_) => Undecoded::Lost.number(),
             Cause::Scrambler => 9,
         }
     }
 }
 
 impl Unreceived {
-    // Stays a match: an enum with a value in one of its cases has no numbers of its own.
+    // Stays a match: `as` takes an enum only where no case has a value.
     pub fn number(self) -> u8
         ensures { result ≡ unreceived_number self }
     {

@@ -24,7 +24,7 @@ pub(crate) fn pass_word<E: Copy>(
         lengths,
     };
     let clock = before * setting.parts;
-    // Stays by index: of what is written through `chunks_exact_mut` a proof knows the length alone, so `returns` stays open.
+    // Stays by index: of what is written through `chunks_exact_mut` a proof knows the length alone, so the contract does not follow.
     for part in 0..setting.parts {
         let start = part * setting.block;
         let block = &mut word[start..start + setting.block];

@@ -15,9 +15,9 @@ fn values(word: &[Arrival]) -> [u8; LONGEST_WORD]
     requires { length word.now ≤ 255 }
     ensures { take (length word.now) result ≡ map value_of word.now }
 {
-    // Stays a room of fixed length: nothing here allocates.
+    // Stays a room of fixed length: nothing here allocates, and no crate is used but std.
     let mut octets = [0; LONGEST_WORD];
-    // Stays with an index for the octets: of what a zip with `iter_mut` writes a proof knows the length alone.
+    // Stays by place: of what is written through a `zip` with `iter_mut` a proof knows the length alone; `array::from_fn` was tried, and what its closure gives stayed open.
     for (place, arrival) in word.iter().enumerate() {
         octets[place] = arrival.value();
     }
@@ -54,7 +54,7 @@ pub(crate) fn read_word<C: Coder>(
     requires { FitsCoder (C.Coder.code coder.now) frame.old word.now }
     ensures { Frames (C.Coder.code coder.now) (descrambling earlier.old) (descrambling earlier.new) word.now frame.old frame.new result }
 {
-    // Stays a room of fixed length: nothing here allocates.
+    // Stays a room of fixed length: nothing here allocates, and no crate is used but std.
     let mut room = [0; LONGEST_WORD];
     let message = &mut room[..frame.len()];
     let before = earlier.take();

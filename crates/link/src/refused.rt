@@ -16,7 +16,7 @@ pub enum Refused {
 }
 
 impl Refused {
-    // Stays a match: an enum with a value in one of its cases has no numbers of its own.
+    // Stays a match: `as` takes an enum only where no case has a value.
     pub fn number(self) -> u8
         ensures { result ≡ refused_number self }
     {

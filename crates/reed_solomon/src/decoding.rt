@@ -31,7 +31,7 @@ impl<F: Field> Received<'_, F> {
             return Some(0);
         }
         let check = difference.len();
-        // Stays two rooms of fixed length: nothing here allocates.
+        // Stays two rooms of fixed length: nothing here allocates, and no crate is used but std.
         let mut found = [0; MOST_CHECK];
         let mut polynomial = [0; MOST_UNKNOWNS];
         let found = &mut found[..check];
@@ -49,7 +49,7 @@ fn decode_elements<C: Checks>(coder: &C, received: &[u8], message: &mut [u8]) ->
     requires short { length received.now < C.Over.Field.field.size }
     ensures { Elements C.Over.Field.field received.now → Answered C.Over.Field.field (length message.old) (C.numbers coder.now).check received.now message.old message.new result }
 {
-    // Stays a room of fixed length: nothing here allocates.
+    // Stays a room of fixed length: nothing here allocates, and no crate is used but std.
     let mut difference = [0; MOST_CHECK];
     let difference = &mut difference[..coder.numbers().check];
     check_difference(coder, received, difference);

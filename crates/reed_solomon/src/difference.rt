@@ -11,7 +11,7 @@ fn add(sum: &mut [u8], octets: &[u8])
     requires { length sum.old ≡ length octets.now }
     ensures { sum.new ≡ plus sum.old octets.now }
 {
-    // Stays by index: after a loop over sum.iter_mut().zip(octets) a proof knows nothing of what the sum holds.
+    // Stays by index: of what is written through a `zip` with `iter_mut` a proof knows the length alone. Octets need not be elements, so this is no `add_multiple`.
     for (k, octet) in octets.iter().enumerate() {
         sum[k] ^= *octet;
     }

@@ -18,6 +18,7 @@ fn add_root<F: Field>(polynomial: &mut [u8], root: u8)
 }
 
 // Root i.
+// Stays a function: the edit `roots_from_the_next_power` must be refused at its line, and not in the answers of the loop below.
 fn root<F: Field>(i: u8) -> u8
     ensures { result ≡ power F.Field.field i }
 {

@@ -24,7 +24,7 @@ pub(crate) fn add_multiple<F: Field>(list: &mut [u8], factor: u8, other: &[u8])
     requires { length list.old ≡ length other.now }
     ensures { list.new ≡ plus list.old (scaled F.Field.field factor other.now) }
 {
-    // Stays with `other[i]`: of what is written through a zip with `iter_mut` a proof knows nothing.
+    // Stays with `other[i]`: of what is written through a `zip` with `iter_mut` a proof knows the length alone.
     for (i, number) in list.iter_mut().enumerate() {
         *number ^= F::times(factor, other[i]);
     }

@@ -18,6 +18,7 @@ pub(crate) fn locator<F: Field>(syndromes: &[u8], locator: &mut [u8])
     ensures { Locating F.Field.field (held syndromes.now) locator.new }
 {
     let mut vectors = Vectors::units(locator.len());
+    // Stays by number: an equation is the syndromes from its number on, and `windows` would give too many where there are more syndromes.
     for equation in 0..locator.len() - 1 {
         vectors.meet::<F>(syndromes, equation);
     }

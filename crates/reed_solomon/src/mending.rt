@@ -51,7 +51,7 @@ pub(crate) fn mend_message(message: &mut [u8], terms: &[Term])
 {
     for term in terms {
         let place = term.place as usize;
-        // Stays by index: of what is written through `get_mut` a proof knows nothing.
+        // Stays by index: of what is written through `get_mut` a proof knows the length alone.
         if place < message.len() {
             message[place] ^= term.value;
         }

@@ -22,7 +22,7 @@ impl<F: Field> Received<'_, F> {
         ensures places { Places (length self.now.octets.now) (places_of (take result terms.new)) }
     {
         let word = self.octets.len();
-        // Stays with a count: of what is written through an adapter of `iter_mut` a proof knows nothing, and `collect` needs a heap.
+        // Stays with a count: of what is written through a `zip` with `iter_mut` a proof knows the length alone, and a list that grows needs a heap or a crate beside std.
         let mut count = 0;
         for place in 0..word {
             if low_value::<F>(locator, place_locator::<F>(word, place)) == 0 {

@@ -27,7 +27,7 @@ pub(crate) fn remainder<F: Field>(message: &[u8], register: &mut [u8])
     requires { length register.old ≤ 16 }
     ensures { register.new ≡ check_of F.Field.field (length register.old) message.now }
 {
-    // Stays a room of fixed length: nothing here allocates.
+    // Stays a room of fixed length: nothing here allocates, and no crate is used but std.
     let mut room = [0; MOST_COEFFICIENTS];
     let polynomial = &mut room[..=register.len()];
     generator_polynomial::<F>(polynomial);

@@ -26,7 +26,7 @@ impl<F: Field> Received<'_, F> {
         requires front { length message.old ≤ length self.now.octets.now }
         ensures { Repaired F.Field.field self.now.octets.now syndromes.old locator.now message.old message.new result }
     {
-        // Stays a room of fixed length: nothing here allocates.
+        // Stays a room of fixed length: nothing here allocates, and no crate is used but std.
         let mut terms = [Term { place: 0, value: 0 }; MOST_REPAIRS];
         let count = self.root_places(locator, &mut terms);
         self.repair_at(syndromes, &mut terms[..count], message)

@@ -13,6 +13,7 @@ use field::Field;
 use std::marker::PhantomData;
 
 impl<F: Field> Received<'_, F> {
+    // Stays with clauses on the terms, here and in repair.rt: they are written, and a struct that lends them to write can hold no ghost field.
     // Sets the values that an error with these syndromes has if it is nowhere but at the terms' places of the word.
     pub(crate) fn error_values(&self, syndromes: &[u8], terms: &mut [Term])
         requires places { Places (length self.now.octets.now) (places_of terms.old) }
@@ -40,7 +41,7 @@ impl<F: Field> Pattern<'_, F> {
         requires among { (i : ℕ) × (i < length (places_of self.now.terms.now)) × (slice_index (places_of self.now.terms.now) i ≡ place) }
         ensures { ValueFor F.Field.field self.now.word (λ j. slice_index syndromes.now j) (places_of self.now.terms.now) place result }
     {
-        // Stays a room of fixed length: nothing here allocates.
+        // Stays a room of fixed length: nothing here allocates, and no crate is used but std.
         let mut room = [0; MOST_REPAIRS];
         let polynomial = &mut room[..self.terms.len()];
         self.vanishing_elsewhere(place, polynomial);

@@ -20,7 +20,7 @@ fn cuts(block: usize, word: usize) -> bool
 }
 
 // M×I×(I−1), twice the elements that the branches hold.
-// Stays beside the delay line's own `memory`: neither crate rests on the other, and who asks for a setting needs no delay line.
+// Stays, with `delay` below, beside the delay line's own `memory` and `delay`: neither crate rests on the other, and who asks for a setting needs no delay line.
 #[tactic(auto, using(crate::proofs::Numbers::spread_below))]
 fn twice_memory(block: usize, step: usize) -> usize
     requires { (0 < block) × (block ≤ 255) × (step ≤ 255) }

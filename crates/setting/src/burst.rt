@@ -39,6 +39,7 @@ impl Setting {
         first <= row && row < first + self.parts
     }
 
+    // Stays apart from `burst_limit`: the search is proved for any threshold.
     // The longest stretch of the line that never holds more than `most` octets of one word. Stretches that begin
     // with an octet of word 0 are looked at, and of each how many octets it holds is counted along.
     fn longest(&self, most: usize) -> usize
@@ -46,7 +47,7 @@ impl Setting {
         ensures longest { Longest (plan self.now) most result }
         ensures sharp { Sharp (plan self.now) most result }
     {
-        // Stays a room of fixed length: nothing here allocates.
+        // Stays a room of fixed length: nothing here allocates, and no crate is used but std.
         let mut counts = [0usize; LONGEST_WORD];
         let counts = &mut counts[..self.sizes.word];
         let mut longest = 0;

@@ -17,13 +17,13 @@ struct Case {
 }
 
 // The table of kinds. Gives the answer that was another than the line says, if there was one.
-// Stays a match: a kind is a name in the input, and a table of functions by name would hand out function pointers.
-pub fn judge(heap: Global, kind: &str, fields: &mut Fields<'_>) -> Result<Option<String>, Fault> {
+// Stays a match: a table would be these arms with function pointers, and `setting` has another type.
+pub fn judge(kind: &str, fields: &mut Fields<'_>) -> Result<Option<String>, Fault> {
     match kind {
-        "word" => coding(heap, fields, word),
-        "decode" => coding(heap, fields, decode),
-        "refuse" => coding(heap, fields, refuse),
-        "setting" => setting(heap, fields),
+        "word" => coding(fields, word),
+        "decode" => coding(fields, decode),
+        "refuse" => coding(fields, refuse),
+        "setting" => setting(fields),
         _ => Err(Fault::Malformed),
     }
 }
@@ -46,28 +46,27 @@ fn text(heap: Global, answer: Answer) -> Result<String, AllocError> {
 }
 
 // CODER K R and what `read` reads
-fn coding<F: FnOnce(Global, Named, &mut Fields<'_>) -> Result<Vec<Case>, Fault>>(
-    heap: Global,
+fn coding<F: FnOnce(Named, &mut Fields<'_>) -> Result<Vec<Case>, Fault>>(
     fields: &mut Fields<'_>,
     read: F,
 ) -> Result<Option<String>, Fault>
     requires { F.IsAlwaysCallable read }
 {
     let coder = named(fields)?;
-    let cases = read(heap, coder, fields)?;
+    let cases = read(coder, fields)?;
     fields.end()?;
     for case in cases {
-        if let Some(other) = coder.other_answer(heap, &case.question, &case.said)? {
-            return Ok(Some(text(heap, other)?));
+        if let Some(other) = coder.other_answer(fields.heap, &case.question, &case.said)? {
+            return Ok(Some(text(fields.heap, other)?));
         }
     }
     Ok(None)
 }
 
 // MESSAGE WORD
-fn word(heap: Global, _coder: Named, fields: &mut Fields<'_>) -> Result<Vec<Case>, Fault> {
-    let message = fields.octets(heap)?;
-    let octets = fields.octets(heap)?;
+fn word(_coder: Named, fields: &mut Fields<'_>) -> Result<Vec<Case>, Fault> {
+    let message = fields.octets()?;
+    let octets = fields.octets()?;
     let question = Question {
         call: Call::Encode,
         octets: message,
@@ -77,15 +76,15 @@ fn word(heap: Global, _coder: Named, fields: &mut Fields<'_>) -> Result<Vec<Case
         repaired: None,
         octets,
     });
-    Ok(vec![in heap; Case { question, said }]?)
+    Ok(vec![in fields.heap; Case { question, said }]?)
 }
 
 // repaired D MESSAGE, or lost
-fn decoding(heap: Global, fields: &mut Fields<'_>) -> Result<Answer, Fault> {
+fn decoding(fields: &mut Fields<'_>) -> Result<Answer, Fault> {
     match fields.text()? {
         "repaired" => Ok(Ok(Given {
             repaired: Some(fields.number()?),
-            octets: fields.octets(heap)?,
+            octets: fields.octets()?,
         })),
         "lost" => Ok(Err(Refused::Number(Undecoded::Lost.number()))),
         _ => Err(Fault::Malformed),
@@ -93,18 +92,18 @@ fn decoding(heap: Global, fields: &mut Fields<'_>) -> Result<Answer, Fault> {
 }
 
 // RECEIVED and the decoding
-fn decode(heap: Global, coder: Named, fields: &mut Fields<'_>) -> Result<Vec<Case>, Fault> {
+fn decode(coder: Named, fields: &mut Fields<'_>) -> Result<Vec<Case>, Fault> {
     let question = Question {
         call: Call::Decode,
-        octets: fields.octets(heap)?,
+        octets: fields.octets()?,
         length: coder.frame,
     };
-    let said = decoding(heap, fields)?;
-    Ok(vec![in heap; Case { question, said }]?)
+    let said = decoding(fields)?;
+    Ok(vec![in fields.heap; Case { question, said }]?)
 }
 
 // MESSAGELEN WORDLEN NUMBER
-fn refuse(heap: Global, _coder: Named, fields: &mut Fields<'_>) -> Result<Vec<Case>, Fault> {
+fn refuse(_coder: Named, fields: &mut Fields<'_>) -> Result<Vec<Case>, Fault> {
     let message = fields.number()?;
     let word = fields.number()?;
     let number = fields.number()?;
@@ -112,22 +111,22 @@ fn refuse(heap: Global, _coder: Named, fields: &mut Fields<'_>) -> Result<Vec<Ca
         Ok(Case {
             question: Question {
                 call,
-                octets: vec![in heap; 0; octets]?,
+                octets: vec![in fields.heap; 0; octets]?,
                 length,
             },
             said: Err(Refused::Number(number)),
         })
     };
-    Ok(vec![in heap;
+    Ok(vec![in fields.heap;
         refused(Call::Encode, message, word)?,
         refused(Call::Decode, word, message)?,
     ]?)
 }
 
 // CODER K R I M and the line that is printed
-fn setting(heap: Global, fields: &mut Fields<'_>) -> Result<Option<String>, Fault> {
+fn setting(fields: &mut Fields<'_>) -> Result<Option<String>, Fault> {
     let octets: [u8; 5] = try_from_fn(|_| fields.number())?;
     let said = fields.remainder()?;
-    let printed = line(heap, octets.as_slice())?;
+    let printed = line(fields.heap, octets.as_slice())?;
     Ok((printed.as_str() != said).then_some(printed))
 }

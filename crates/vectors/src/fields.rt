@@ -5,13 +5,18 @@ use std::alloc::Global;
 
 #[derive(Drop)]
 pub struct Fields<'a> {
+    // what is read is kept there
+    pub heap: Global,
     // what is not read yet; none behind the last field
     rest: Option<&'a str>,
 }
 
 impl<'a> Fields<'a> {
-    pub fn new(line: &'a str) -> Fields<'a> {
-        Fields { rest: Some(line) }
+    pub fn new(heap: Global, line: &'a str) -> Fields<'a> {
+        Fields {
+            heap,
+            rest: Some(line),
+        }
     }
 
     pub fn text(&mut self) -> Result<&'a str, Fault> {
@@ -36,8 +41,8 @@ impl<'a> Fields<'a> {
         N::try_from(number).map_err(|_| Fault::Malformed)
     }
 
-    pub fn octets(&mut self, heap: Global) -> Result<Vec<u8>, Fault> {
-        read_octets(heap, self.text()?)
+    pub fn octets(&mut self) -> Result<Vec<u8>, Fault> {
+        read_octets(self.heap, self.text()?)
     }
 
     // All that is left, with its spaces.

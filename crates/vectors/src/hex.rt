@@ -5,6 +5,7 @@ use std::fmt;
 
 const NO_OCTETS: &str = "-";
 
+// Stays by ranges: `to_digit(16)` takes capitals too.
 fn digit(character: u8) -> Result<u8, Fault> {
     match character {
         b'0'..=b'9' => Ok(character - b'0'),

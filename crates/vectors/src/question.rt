@@ -6,7 +6,7 @@ use std::alloc::{AllocError, Global};
 // What a buffer holds before a call.
 const FILLING: u8 = 0xa5;
 
-// Stays an enum: a closure in its place would have to be generic in the coder that it calls.
+// Stays an enum: a closure in its place would have to be generic in the coder that it calls, and no closure can be.
 #[derive(Clone, Copy)]
 pub enum Call {
     Encode,

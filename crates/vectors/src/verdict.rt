@@ -19,9 +19,9 @@ impl Verdict {
         if line.is_empty() || line.starts_with('#') {
             return Ok(None);
         }
-        let mut fields = Fields::new(line);
+        let mut fields = Fields::new(heap, line);
         let kind = fields.text()?;
-        let other = judge(heap, kind, &mut fields)?;
+        let other = judge(kind, &mut fields)?;
         let kind = String::from_str(heap, kind)?;
         Ok(Some(Verdict { kind, other }))
     }

@@ -14,7 +14,6 @@ fn unit(place: usize) -> [u8; MOST_UNKNOWNS]
     requires { place < 9 }
     ensures { result ≡ slice_set (zeros 9) place 1 }
 {
-    // Stays a room of fixed length: nothing here allocates.
     let mut vector = [0; MOST_UNKNOWNS];
     vector[place] = 1;
     vector

@@ -3,8 +3,8 @@ ghost use Rattle.std.specs.Prelude.{◌≤◌};
 
 use crate::bounds::MOST_UNKNOWNS;
 
-// Stays with lengths beside the rows: there is no heap, and this struct is what owns all three.
 // `kept` vectors of `width` coefficients each, at the front of the first rows.
+// Stays with lengths beside the rows: nothing here allocates, no crate is used but std, and this struct is what owns all three.
 #[derive(Drop)]
 pub(crate) struct Vectors {
     pub(crate) rows: [[u8; MOST_UNKNOWNS]; MOST_UNKNOWNS],

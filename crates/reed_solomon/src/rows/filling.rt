@@ -31,7 +31,7 @@ pub(crate) fn all_rows(check: usize) -> [u128; 256]
     requires { check ≤ 16 }
     ensures { RowsOf check result }
 {
-    // Stays a room of fixed length: nothing here allocates.
+    // Stays a room of fixed length: nothing here allocates, and no crate is used but std.
     let mut room = [0; MOST_COEFFICIENTS];
     let polynomial = &mut room[..=check];
     generator_polynomial::<Table>(polynomial);

@@ -28,7 +28,7 @@ impl Earlier {
         ensures later { earlier_bits self.new ≡ after (earlier_bits self.old) octets.old }
         ensures laws { Receiving (earlier_bits self.old) (earlier_bits self.new) octets.old octets.new }
     {
-        // Stays a loop beside the sender's: which octet goes over the line differs, and a shared loop's contract would take both laws.
+        // Stays a loop beside the sender's: a shared one would take a closure that picks the octet sent, for one line's difference.
         for octet in octets.iter_mut() {
             let given = self.mixed(*octet);
             *self = self.followed_by(*octet);

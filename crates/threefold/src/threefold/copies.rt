@@ -68,7 +68,7 @@ impl<'a> Thirds<'a> {
         odds(self.first, self.second, self.third)
     }
 
-    // Stays by place: with `zip` the result stayed open, for of what `iter_mut` lends to an adapter a proof knows no element after.
+    // Stays by place: of what is written through a `zip` with `iter_mut` a proof knows the length alone.
     pub(super) fn write_voted(&self, message: &mut [u8])
         requires { length message.old ≡ self.now.coder.sizes.frame }
         ensures { message.new ≡ voted self.now.coder.sizes.frame (whole self.now) }
