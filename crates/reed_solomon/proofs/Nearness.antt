@@ -11,16 +11,12 @@ use Rattle.field.specs.Field.{Field, Laws}
 use Rattle.rs_algebra.specs.Polynomials.{Elements}
 use Rattle.rs_algebra.specs.Words.{word_of, check_difference}
 use Rattle.coder.specs.Codes.{distance}
+use Rattle.coder.proofs.Distances.{distance_self}
 use Rattle.rs_algebra.proofs.Lists.{take_elements}
 use Rattle.rs_algebra.proofs.Checks.{difference_none}
 use Rattle.reed_solomon.specs.ReedSolomon.{rs_code}
 use Rattle.reed_solomon.specs.Decoding.{NearWord, Answered}
 use Rattle.reed_solomon.specs.Codes.{octets_elements, elements_octets}
-
-no_distance : (a : List ℕ) → distance a a ≡ 0
-unfolding distance
-no_distance [] = refl
-no_distance (x ∷ a) = rw (eq-eqb x x refl) (omega (arith, no_distance a))
 
 -- where every octet is 0, each reads 0
 pub zero_reads : (xs : List ℕ) → list_all (λ octet. octet == 0) xs ≡ true → (k : ℕ) → get_or xs k 0 ≡ 0
@@ -39,7 +35,7 @@ module _ (f : Field) (laws : Laws f) (K R : ℕ) (received : List ℕ) where
   clean difference is none long e = record {
     long = length-take-le K received (omega arith);
     elements = take_elements f laws K received e;
-    differing = ap (distance (word_of f R (take K received))) word ∙ no_distance (word_of f R (take K received));
+    differing = ap (distance (word_of f R (take K received))) word ∙ distance_self (word_of f R (take K received));
     within = omega arith;
   }
     where
