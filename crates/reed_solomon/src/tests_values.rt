@@ -32,6 +32,7 @@ fn received(octets: &[u8]) -> Received<'_, Table>
     }
 }
 
+// Stays with syndromes and terms apart, here and below: a test is a row of an error's locator polynomial, its syndromes and its terms.
 // An error of one octet or more in a word of `word` octets: a locator polynomial and the syndromes give back its terms.
 fn gives_back(rt: &impl Abort, word: usize, locator: &[u8], sums: &[u8], terms: &[Term]) {
     assert!(rt; word < 256 && sums.len() <= 16);
