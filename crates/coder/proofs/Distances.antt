@@ -1,5 +1,6 @@
 -- Distances between words of the same length, and what they say of decoding. Assumes nothing.
-use Rattle.std.proofs.Common.{◌≡◌, ℕ, zero, suc, ◌+◌, ◌≤◌, cond, eqb, ◌≢◌, ◌⊎◌, List, [], ◌∷◌, ◌++◌, length, set, sym, refl, ap, ◌∙◌, ap₂, inl, inr, zero-add, arith}
+use Rattle.std.proofs.Common.{◌≡◌, ℕ, zero, suc, ◌+◌, ◌<◌, ◌≤◌, cond, eqb, ◌≢◌, ◌⊎◌, List, [], ◌∷◌, ◌++◌, length, get_or, take, set, sym, refl, ap, ◌∙◌, ap₂, inl, inr, zero-add, arith}
+use Rattle.std.proofs.lemmas.List.{length-take, take_more}
 use Rattle.std.proofs.lemmas.Bool.{cases_eq}
 use Rattle.std.proofs.lemmas.Bool.Decides.{nat_tests}
 use Rattle.coder.specs.Codes.{Code, Message, Sound, Near, distance}
@@ -59,6 +60,16 @@ distance-append [] (y ∷ b) c d e = absurd (omega arith)
 distance-append (x ∷ a) [] c d e = absurd (omega arith)
 distance-append (x ∷ a) (y ∷ b) c d e =
     omega (arith, distance-append a b c d (omega arith))
+
+-- one place more: the step of a loop that counts places
+pub distance_more : (a b : List ℕ) (i : ℕ) → i < length a → i < length b
+    → distance (take (i + 1) a) (take (i + 1) b) ≡ distance (take i a) (take i b) + apart_at (get_or a i 0) (get_or b i 0)
+unfolding distance
+distance_more a b i ha hb =
+    let fronts : length (take i a) ≡ length (take i b) = length-take i a ∙ omega arith ∙ sym (length-take i b) in
+    ap₂ distance (take_more a i 0 ha) (take_more b i 0 hb)
+    ∙ distance-append (take i a) (take i b) (get_or a i 0 ∷ []) (get_or b i 0 ∷ []) fronts
+    ∙ ap (λ (n : ℕ). distance (take i a) (take i b) + n) (omega arith)
 
 -- one octet written changes a distance by one at most
 pub distance-set : (a b : List ℕ) (i x : ℕ) → distance a (set b i x) ≤ distance a b + 1

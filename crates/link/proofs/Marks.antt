@@ -15,7 +15,7 @@ unfolding marks_in
 first_mark (Octet o) xs = refl
 first_mark Lost xs = omega arith
 
-no_marks : marks_in [] ≡ 0
+pub no_marks : marks_in [] ≡ 0
 unfolding marks_in
 no_marks = refl
 

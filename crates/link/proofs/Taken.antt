@@ -13,7 +13,7 @@ use Rattle.link.specs.Receivers.{filling}
 use Rattle.link.specs.Gathering.{Gathered}
 use Rattle.link.proofs.Settings.{settled}
 
-kept_none : (s : Setting) (f : ℕ) → f < s.lag → kept (plan s) f ≡ 0
+pub kept_none : (s : Setting) (f : ℕ) → f < s.lag → kept (plan s) f ≡ 0
 kept_none s f h =
     let sooner : suc f * s.parts ≤ s.lag * s.parts = mul-le-mul_right s.parts h in
     let early : f * s.parts - s.delay ≡ 0 = omega (arith, sooner, suc-mul f s.parts, (settled s).lag_least) in

@@ -14,7 +14,7 @@ use Rattle.reed_solomon.proofs.Folds.{fold-reverse}
 use Rattle.reed_solomon.proofs.Packing.{packed-plus, packed_top, packed_zero, packed-zeros, packed_up, packed_down}
 
 -- one octet of a message
-fed : (R : ℕ) (rows : List ℕ) → RowsOf R rows → (reg : List ℕ) (c : ℕ) → Octets reg → length reg ≤ 16 → c < 256
+pub fed : (R : ℕ) (rows : List ℕ) → RowsOf R rows → (reg : List ℕ) (c : ℕ) → Octets reg → length reg ≤ 16 → c < 256
     → fed_back rows (packed 16 reg) c ≡ packed 16 (register_step octets (generator octets R) reg c)
 unfolding register_step
 fed R rows right reg c o long octet =

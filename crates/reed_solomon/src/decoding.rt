@@ -43,7 +43,11 @@ impl<F: Field> Received<'_, F> {
 }
 
 // A received word of elements of the coder's field.
-fn decode_elements<C: Checks>(coder: &C, received: &[u8], message: &mut [u8]) -> Option<usize>
+pub(crate) fn decode_elements<C: Checks>(
+    coder: &C,
+    received: &[u8],
+    message: &mut [u8],
+) -> Option<usize>
     requires message_len { length message.old ≡ (C.numbers coder.now).sizes.frame }
     requires received_len { length received.now ≡ (C.numbers coder.now).sizes.word }
     requires short { length received.now < C.Over.Field.field.size }

@@ -1,11 +1,12 @@
 -- The check octets of a message by a register. Assumes nothing.
-use Rattle.std.proofs.Common.{◌≡◌, ℕ, suc, ◌+◌, ◌<◌, ◌≤◌, List, [], ◌∷◌, ◌++◌, length, get_or, take, drop, sym, refl, ap, ◌∙◌, arith, length-append, length-drop}
+use Rattle.std.proofs.Common.{◌≡◌, ℕ, zero, suc, ◌+◌, ◌<◌, ◌≤◌, List, [], ◌∷◌, ◌++◌, length, get_or, take, drop, sym, refl, ap, ◌∙◌, ap₂, arith, length-append, length-drop}
 use lib.Bits.{bit_xor}
 use Rattle.std.proofs.lemmas.List.{take_more, length_push}
 use Rattle.field.specs.Field.{Field, Laws}
 use Rattle.rs_algebra.specs.Polynomials.{Elements, zeros, plus, scaled, generator}
 use Rattle.rs_algebra.specs.Words.{remainder, check_of, register_step, register}
-use Rattle.rs_algebra.proofs.Lists.{zeros_long, plus_long, plus_comm, plus_assoc, plus-zeros, plus_padded, scaled_long, plus_elements, scaled_elements, append_elements, drop_elements, zeros_elements}
+use Rattle.rs_algebra.proofs.Lists.{zeros_long, plus_long, plus_comm, plus_assoc, plus-zeros, plus_padded, plus_reads, scaled_long, plus_elements, scaled_elements, append_elements, drop_elements, zeros_elements}
+use Rattle.rs_algebra.proofs.LowFirst.{scaled_reads}
 use Rattle.rs_algebra.proofs.Division.{lower_long}
 
 module _ (f : Field) (laws : Laws f) where
@@ -20,6 +21,27 @@ module _ (f : Field) (laws : Laws f) where
   step_elements g reg c e =
       plus_elements f laws (scaled f (bit_xor (get_or reg 0 0) c) (drop 1 g)) (drop 1 (reg ++ 0 ∷ [])) (scaled_elements f laws (bit_xor (get_or reg 0 0) c) (drop 1 g))
       (drop_elements f laws 1 (reg ++ 0 ∷ []) (append_elements f laws reg (0 ∷ []) e (zeros_elements f laws 1)))
+
+  -- place k of the register after a step
+  pub step_reads : (g reg : List ℕ) (c k : ℕ)
+      → get_or (register_step f g reg c) k 0 ≡ bit_xor (f.times (bit_xor (get_or reg 0 0) c) (get_or g (k + 1) 0)) (get_or reg (k + 1) 0)
+  unfolding register_step
+  step_reads g reg c k =
+      plus_reads (scaled f (bit_xor (get_or reg 0 0) c) (drop 1 g)) (drop 1 (reg ++ 0 ∷ [])) k
+      ∙ ap₂ bit_xor (scaled_reads f laws (bit_xor (get_or reg 0 0) c) (drop 1 g) k ∙ ap (f.times (bit_xor (get_or reg 0 0) c)) (behind g k)) (moved reg k)
+    where
+      behind : (g : List ℕ) (k : ℕ) → get_or (drop 1 g) k 0 ≡ get_or g (k + 1) 0
+      behind [] k = refl
+      behind (d ∷ g) k = let e : suc k ≡ k + 1 = omega arith in ap (λ n. get_or (d ∷ g) n 0) e
+
+      padded : (p : List ℕ) (k : ℕ) → get_or (p ++ 0 ∷ []) k 0 ≡ get_or p k 0
+      padded [] zero = refl
+      padded [] (suc k) = refl
+      padded (d ∷ p) zero = refl
+      padded (d ∷ p) (suc k) = padded p k
+
+      moved : (reg : List ℕ) (k : ℕ) → get_or (drop 1 (reg ++ 0 ∷ [])) k 0 ≡ get_or reg (k + 1) 0
+      moved reg k = behind (reg ++ 0 ∷ []) k ∙ padded reg (k + 1)
 
   -- one octet more
   register_push : (g reg m : List ℕ) (c : ℕ) → register f g reg (m ++ c ∷ []) ≡ register_step f g (register f g reg m) c

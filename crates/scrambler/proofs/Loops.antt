@@ -4,12 +4,9 @@ use lib.Bits.{bit_xor}
 use Rattle.std.proofs.lemmas.List.{drop_all, drop_more, take_more_set}
 use Rattle.scrambler.specs.Bits.{Octets, bits_of, octets_of, message_bits}
 use Rattle.scrambler.specs.Scrambler.{scrambled, descrambled, scrambled_bits, descrambled_bits, after}
-use Rattle.scrambler.specs.declared.earlier.Earlier.{Earlier}
 use Rattle.scrambler.specs.Laws.{Receiving, Sending}
-use Rattle.scrambler.specs.States.{earlier_bits}
 use Rattle.scrambler.proofs.Laws.{receiving, sending}
 use Rattle.scrambler.proofs.Bits.{length-bits}
-use Rattle.scrambler.proofs.States.{held-bits}
 use Rattle.scrambler.proofs.Steps.{eight_on, eight_taps, on_bits, sent_octet, taken_octet}
 use Rattle.scrambler.proofs.Scrambling.{after-append, after_none, descrambled-append, scrambled-append}
 
@@ -114,35 +111,35 @@ take_more h₀ h xs now i taken l small held =
     (length-bits 23 h) small (taken_octet h x small) (on_bits h x held)
 
 -- and at the end of the octets
-module _ (s₀ s : Earlier) (ms now : List ℕ) (sent : Sent s₀.bits s.bits ms now (length now)) where
-  pub all_sent : now ≡ scrambled (earlier_bits s₀) ms
-  unfolding earlier_bits Sent
-  all_sent = all_made scrambling (bits_of 23 s₀.bits) (bits_of 23 s.bits) ms now (length now) sent (omega arith)
+module _ (h₀ h : ℕ) (ms now : List ℕ) (i : ℕ) (sent : Sent h₀ h ms now i) (end : length now ≤ i) where
+  pub all_sent : now ≡ scrambled (bits_of 23 h₀) ms
+  unfolding Sent
+  all_sent = all_made scrambling (bits_of 23 h₀) (bits_of 23 h) ms now i sent end
 
-  later_sent : earlier_bits s ≡ after (earlier_bits s₀) (scrambled (earlier_bits s₀) ms)
-  unfolding earlier_bits Sent
-  later_sent = all_later scrambling (bits_of 23 s₀.bits) (bits_of 23 s.bits) ms now (length now) sent (omega arith) (length-bits 23 s.bits)
+  later_sent : bits_of 23 h ≡ after (bits_of 23 h₀) (scrambled (bits_of 23 h₀) ms)
+  unfolding Sent
+  later_sent = all_later scrambling (bits_of 23 h₀) (bits_of 23 h) ms now i sent end (length-bits 23 h)
 
-  pub sent_later : earlier_bits s ≡ after (earlier_bits s₀) now
-  sent_later = later_sent ∙ ap (after (earlier_bits s₀)) (sym all_sent)
+  pub sent_later : bits_of 23 h ≡ after (bits_of 23 h₀) now
+  sent_later = later_sent ∙ ap (after (bits_of 23 h₀)) (sym all_sent)
 
-  pub sent_laws : Sending (earlier_bits s₀) (earlier_bits s) ms now
-  unfolding earlier_bits Sent
+  pub sent_laws : Sending (bits_of 23 h₀) (bits_of 23 h) ms now
+  unfolding Sent
   sent_laws =
-      sending (earlier_bits s₀) (earlier_bits s) ms now (held-bits s₀)
-      (all_octets scrambling (bits_of 23 s₀.bits) (bits_of 23 s.bits) ms now (length now) sent (omega arith)) all_sent later_sent
+      sending (bits_of 23 h₀) (bits_of 23 h) ms now (length-bits 23 h₀)
+      (all_octets scrambling (bits_of 23 h₀) (bits_of 23 h) ms now i sent end) all_sent later_sent
 
-module _ (s₀ s : Earlier) (xs now : List ℕ) (taken : Taken s₀.bits s.bits xs now (length now)) where
-  pub all_taken : now ≡ descrambled (earlier_bits s₀) xs
-  unfolding earlier_bits Taken
-  all_taken = all_made descrambling (bits_of 23 s₀.bits) (bits_of 23 s.bits) xs now (length now) taken (omega arith)
+module _ (h₀ h : ℕ) (xs now : List ℕ) (i : ℕ) (taken : Taken h₀ h xs now i) (end : length now ≤ i) where
+  pub all_taken : now ≡ descrambled (bits_of 23 h₀) xs
+  unfolding Taken
+  all_taken = all_made descrambling (bits_of 23 h₀) (bits_of 23 h) xs now i taken end
 
-  pub taken_later : earlier_bits s ≡ after (earlier_bits s₀) xs
-  unfolding earlier_bits Taken
-  taken_later = all_later descrambling (bits_of 23 s₀.bits) (bits_of 23 s.bits) xs now (length now) taken (omega arith) (length-bits 23 s.bits)
+  pub taken_later : bits_of 23 h ≡ after (bits_of 23 h₀) xs
+  unfolding Taken
+  taken_later = all_later descrambling (bits_of 23 h₀) (bits_of 23 h) xs now i taken end (length-bits 23 h)
 
-  pub taken_laws : Receiving (earlier_bits s₀) (earlier_bits s) xs now
-  unfolding earlier_bits Taken
+  pub taken_laws : Receiving (bits_of 23 h₀) (bits_of 23 h) xs now
+  unfolding Taken
   taken_laws =
-      receiving (earlier_bits s₀) (earlier_bits s) xs now (held-bits s₀)
-      (all_octets descrambling (bits_of 23 s₀.bits) (bits_of 23 s.bits) xs now (length now) taken (omega arith)) all_taken taken_later
+      receiving (bits_of 23 h₀) (bits_of 23 h) xs now (length-bits 23 h₀)
+      (all_octets descrambling (bits_of 23 h₀) (bits_of 23 h) xs now i taken end) all_taken taken_later

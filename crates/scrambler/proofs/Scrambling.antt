@@ -139,6 +139,10 @@ pub scrambled-octets : (e : List Bool) (ms : List ℕ) → Octets (scrambled e m
 unfolding scrambled
 scrambled-octets e ms = octets_are (length ms) (scrambled_bits e (message_bits ms))
 
+pub descrambled-octets : (e : List Bool) (xs : List ℕ) → Octets (descrambled e xs)
+unfolding descrambled
+descrambled-octets e xs = octets_are (length xs) (descrambled_bits e (message_bits xs))
+
 -- ---- the two are inverse
 
 pub undo : (e : List Bool) (ms : List ℕ) → Octets ms → descrambled e (scrambled e ms) ≡ ms
@@ -153,6 +157,10 @@ pub injective : (e : List Bool) (xs ys : List ℕ) → Octets xs → Octets ys �
 injective e xs ys h k same = sym (redo e xs h) ∙ ap (scrambled e) same ∙ redo e ys k
 
 -- ---- the earlier bits
+
+pub length-after : (e : List Bool) (xs : List ℕ) → length e ≡ 23 → length (after e xs) ≡ 23
+unfolding after
+length-after e xs h = length-latest (e ++ message_bits xs) (simp length-append (omega arith))
 
 pub renewed : (e e' : List Bool) (xs : List ℕ) → 3 ≤ length xs → after e xs ≡ after e' xs
 unfolding after
@@ -172,6 +180,10 @@ after-append e xs ys =
     ap (λ r. latest (e ++ r)) (message_bits-append xs ys)
     ∙ ap latest (sym (append_assoc e (message_bits xs) (message_bits ys)))
     ∙ sym (latest-append (e ++ message_bits xs) (message_bits ys))
+
+-- what came before the last three octets is forgotten
+pub renewed_end : (e e' : List Bool) (xs ys : List ℕ) → 3 ≤ length ys → after e (xs ++ ys) ≡ after e' ys
+renewed_end e e' xs ys h = after-append e xs ys ∙ renewed (after e xs) e' ys h
 
 pub scrambled-append : (e : List Bool) (xs ys : List ℕ) → length e ≡ 23
     → scrambled e (xs ++ ys) ≡ scrambled e xs ++ scrambled (after e (scrambled e xs)) ys

@@ -19,10 +19,10 @@ impl Setting {
     pub fn limit_of_wide_steps(&self) -> Option<usize>
         ensures { WideSteps (plan self.now) result }
     {
-        let whole = self.sizes.repairs / self.parts;
-        let rest = self.sizes.repairs % self.parts;
-        (self.step >= self.parts).then_some(
-            whole * (self.step * self.block + 1) + rest * self.block,
-        )
+        (self.step >= self.parts).then(|| {
+            let whole = self.sizes.repairs / self.parts;
+            let rest = self.sizes.repairs % self.parts;
+            whole * (self.step * self.block + 1) + rest * self.block
+        })
     }
 }

@@ -1,5 +1,5 @@
 -- The voted message is the nearest of all. Assumes nothing.
-use Rattle.std.proofs.Common.{◌≡◌, ℕ, suc, ◌+◌, ◌*◌, ◌<◌, ◌≤◌, ◌⊎◌, List, [], ◌∷◌, ◌++◌, map, length, get_or, sym, ap, ◌∙◌, inl, inr, arith}
+use Rattle.std.proofs.Common.{◌≡◌, ℕ, zero, suc, ◌+◌, ◌*◌, ◌<◌, ◌≤◌, ◌⊎◌, List, [], ◌∷◌, ◌++◌, map, length, get_or, take, sym, ap, ◌∙◌, inl, inr, arith}
 use Rattle.std.specs.List.{zip}
 use Rattle.std.proofs.lemmas.List.FromFn.{length-map-range_with_len, get_or-map-range_with_len}
 use Rattle.std.proofs.lemmas.List.{length-append, get_or_append_left, get_or-append_right, get_or_past}
@@ -13,10 +13,10 @@ use Rattle.threefold.specs.Threefold.{thrice}
 use Rattle.threefold.specs.Votes.{Judged, majority_of, odd_of, odds_of, others, voted, voted_at, whole}
 
 -- no octet is nearer to three others than their majority
-majority_nearest : (a b c x : ℕ) → odd_of a b c ≤ others a b c x
+pub majority_nearest : (a b c x : ℕ) → odd_of a b c ≤ others a b c x
 majority_nearest a b c x = grind (arith, nat_tests)
 
-odd_le : (a b c : ℕ) → odd_of a b c ≤ 3
+pub odd_le : (a b c : ℕ) → odd_of a b c ≤ 3
 odd_le a b c = grind (arith, nat_tests)
 
 -- how many octets of three copies differ from a message's
@@ -35,6 +35,23 @@ odds_few [] b c = omega arith
 odds_few (x ∷ a) [] c = omega arith
 odds_few (x ∷ a) (y ∷ b) [] = omega arith
 odds_few (x ∷ a) (y ∷ b) (z ∷ c) = omega (arith, odds_more x y z a b c, odd_le x y z, odds_few a b c)
+
+-- the step of a loop that counts them
+pub odds_next : (a b c : List ℕ) (i : ℕ) → i < length a → length b ≡ length a → length c ≡ length a
+    → odds_of (take (i + 1) a) (take (i + 1) b) (take (i + 1) c)
+    ≡ odds_of (take i a) (take i b) (take i c) + odd_of (get_or a i 0) (get_or b i 0) (get_or c i 0)
+odds_next (x ∷ a) (y ∷ b) (z ∷ c) zero h e f = omega (arith, odds_more x y z [] [] [], odds_few [] [] [])
+odds_next (x ∷ a) (y ∷ b) (z ∷ c) (suc i) h e f =
+    let next : suc i + 1 ≡ suc (i + 1) = omega arith in
+    rw next (omega (
+      arith,
+      odds_more x y z (take (i + 1) a) (take (i + 1) b) (take (i + 1) c),
+      odds_more x y z (take i a) (take i b) (take i c),
+      odds_next a b c i (omega arith) (omega arith) (omega arith),
+    ))
+odds_next (x ∷ a) [] c i h e f = absurd (omega arith)
+odds_next (x ∷ a) (y ∷ b) [] i h e f = absurd (omega arith)
+odds_next [] b c i h e f = absurd (omega arith)
 
 odds_least : (m a b c : List ℕ) → length a ≡ length m → length b ≡ length m → length c ≡ length m → odds_of a b c ≤ apart m a b c
 unfolding distance
@@ -59,7 +76,7 @@ odds_are (w ∷ m) [] b c e f g v = absurd (omega arith)
 odds_are (w ∷ m) (x ∷ a) [] c e f g v = absurd (omega arith)
 odds_are (w ∷ m) (x ∷ a) (y ∷ b) [] e f g v = absurd (omega arith)
 
-voted_long : (K : ℕ) (received : List ℕ) → length (voted K received) ≡ K
+pub voted_long : (K : ℕ) (received : List ℕ) → length (voted K received) ≡ K
 unfolding voted
 voted_long K received = length-map-range_with_len (voted_at K received) 0 K
 
@@ -99,7 +116,7 @@ module _ (K : ℕ) (a b c : List ℕ) (al : length a ≡ K) (bl : length b ≡ K
   odds_nearest m ml = omega (arith, apart_is m ml, odds_least m a b c (omega arith) (omega arith) (omega arith))
 
 -- a majority of octets is an octet
-voted-octets : (K : ℕ) (received : List ℕ) → Octets received → Octets (voted K received)
+pub voted-octets : (K : ℕ) (received : List ℕ) → Octets received → Octets (voted K received)
 voted-octets K received octets k = go (cases_lt k K)
   where
     go : (k < K) ⊎ (K ≤ k) → get_or (voted K received) k 0 < 256

@@ -107,6 +107,8 @@ fn refuse(_coder: Named, fields: &mut Fields<'_>) -> Result<Vec<Case>, Fault> {
     let message = fields.number()?;
     let word = fields.number()?;
     let number = fields.number()?;
+    // Before the buffers, which may be large.
+    fields.end()?;
     let refused = |call, octets, length| -> Result<Case, AllocError> {
         Ok(Case {
             question: Question {

@@ -17,27 +17,28 @@ pub struct Named {
 }
 
 impl Named {
-    // The answers of all makes of the coder.
-    fn answers(self, heap: Global, question: &Question) -> Result<Vec<Answer>, AllocError> {
-        let (frame, check) = (self.frame, self.check);
-        Ok(match self.kind {
-            Kind::ReedSolomon => vec![in heap;
-                question.answer(heap, ReedSolomon::<Table>::new(frame, check))?,
-                question.answer(heap, ReedSolomon::<Shifting>::new(frame, check))?,
-                question.answer(heap, RowCoder::new(frame, check))?,
-            ]?,
-            Kind::Threefold => vec![in heap; question.answer(heap, Threefold::new(frame, check))?]?,
-        })
-    }
-
-    // An answer other than the one said, if a make of the coder gives one.
+    // An answer other than the one said, if a make of the coder gives one. The makes after that one are not asked.
     pub fn other_answer(
         self,
         heap: Global,
         question: &Question,
         said: &Answer,
     ) -> Result<Option<Answer>, AllocError> {
-        let answers = self.answers(heap, question)?;
-        Ok(answers.into_iter().find(|answer| *answer != *said))
+        let (frame, check) = (self.frame, self.check);
+        match self.kind {
+            Kind::ReedSolomon => {
+                let table = ReedSolomon::<Table>::new(frame, check);
+                let mut other = question.other_answer(heap, table, said)?;
+                if other.is_none() {
+                    let shifting = ReedSolomon::<Shifting>::new(frame, check);
+                    other = question.other_answer(heap, shifting, said)?;
+                }
+                if other.is_none() {
+                    other = question.other_answer(heap, RowCoder::new(frame, check), said)?;
+                }
+                Ok(other)
+            }
+            Kind::Threefold => question.other_answer(heap, Threefold::new(frame, check), said),
+        }
     }
 }

@@ -23,13 +23,8 @@ pub struct Question {
 }
 
 impl Question {
-    // Makes the call, if there is a coder. A decoding gives how many octets were repaired, a refusal or a loss its number.
-    fn put<C: Coder + Drop>(
-        &self,
-        coder: Result<C, Refusal>,
-        buffer: &mut [u8],
-    ) -> Result<Option<usize>, u8> {
-        let coder = coder.map_err(Refusal::number)?;
+    // Makes the call. A decoding gives how many octets were repaired, a refusal or a loss its number.
+    fn put<C: Coder>(&self, coder: &C, buffer: &mut [u8]) -> Result<Option<usize>, u8> {
         let octets = self.octets.as_slice();
         match self.call {
             Call::Encode => coder
@@ -43,19 +38,35 @@ impl Question {
         }
     }
 
-    // The answer of a coder. A refusal or a loss must leave the buffer as it was.
-    pub fn answer<C: Coder + Drop>(
+    // The answer of a coder, if there is one: a coder that does not exist is lent no buffer. A refusal or a loss must leave
+    // the buffer as it was.
+    fn answer<C: Coder + Drop>(
         &self,
         heap: Global,
         coder: Result<C, Refusal>,
     ) -> Result<Answer, AllocError> {
+        let coder = match coder {
+            Ok(coder) => coder,
+            Err(refusal) => return Ok(Err(Refused::Number(refusal.number()))),
+        };
         let mut octets = vec![in heap; FILLING; self.length]?;
-        Ok(match self.put(coder, octets.as_mut_slice()) {
+        Ok(match self.put(&coder, octets.as_mut_slice()) {
             Ok(repaired) => Ok(Given { repaired, octets }),
             Err(number) if octets.iter().all(|octet| *octet == FILLING) => {
                 Err(Refused::Number(number))
             }
             Err(number) => Err(Refused::Written(number)),
         })
+    }
+
+    // The answer of a coder, if it is another than the one said.
+    pub fn other_answer<C: Coder + Drop>(
+        &self,
+        heap: Global,
+        coder: Result<C, Refusal>,
+        said: &Answer,
+    ) -> Result<Option<Answer>, AllocError> {
+        let answer = self.answer(heap, coder)?;
+        Ok((answer != *said).then_some(answer))
     }
 }

@@ -8,7 +8,7 @@ use super::Earlier;
 
 impl Earlier {
     // Scrambles a message where it stands. The bits sent become the earlier bits of the next message.
-    #[tactic(auto, using(crate::proofs::Loops::send_begun, crate::proofs::Loops::send_more))]
+    #[tactic(auto, using(crate::proofs::Loops::send_begun, crate::proofs::Loops::send_more, crate::proofs::Loops::all_sent, crate::proofs::Loops::sent_later, crate::proofs::Loops::sent_laws), unfolding(crate::specs::States::earlier_bits))]
     pub fn scramble(&mut self, octets: &mut [u8])
         ensures sent { octets.new ≡ scrambled (earlier_bits self.old) octets.old }
         ensures later { earlier_bits self.new ≡ after (earlier_bits self.old) octets.new }
@@ -22,7 +22,7 @@ impl Earlier {
     }
 
     // Gives the message back where the received octets stand. The bits received become the earlier bits of the next message.
-    #[tactic(auto, using(crate::proofs::Loops::take_begun, crate::proofs::Loops::take_more))]
+    #[tactic(auto, using(crate::proofs::Loops::take_begun, crate::proofs::Loops::take_more, crate::proofs::Loops::all_taken, crate::proofs::Loops::taken_later, crate::proofs::Loops::taken_laws), unfolding(crate::specs::States::earlier_bits))]
     pub fn descramble(&mut self, octets: &mut [u8])
         ensures given { octets.new ≡ descrambled (earlier_bits self.old) octets.old }
         ensures later { earlier_bits self.new ≡ after (earlier_bits self.old) octets.old }

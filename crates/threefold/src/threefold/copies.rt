@@ -1,5 +1,5 @@
 // The three copies of a message in a word.
-ghost use Rattle.std.specs.Prelude.{◌≡◌, ◌*◌, ◌^◌, ◌<◌, length};
+ghost use Rattle.std.specs.Prelude.{◌≡◌, ◌*◌, ◌≤◌, length};
 ghost use Rattle.threefold.specs.Threefold.{thrice};
 ghost use Rattle.threefold.specs.Votes.{Judged, majority_of, odd_of, odds_of, voted, whole};
 
@@ -31,17 +31,18 @@ fn odd(a: u8, b: u8, c: u8) -> usize
     usize::from(a != octet) + usize::from(b != octet) + usize::from(c != octet)
 }
 
-// And of three copies of a message.
+// And of three copies of a message, which are of one length.
 fn odds(first: &[u8], second: &[u8], third: &[u8]) -> usize
-    requires { odds_of first.now second.now third.now < 2 ^ 64 }
+    requires lengths { (length second.now ≡ length first.now) × (length third.now ≡ length first.now) }
+    requires short { length first.now ≤ 255 }
     ensures { result ≡ odds_of first.now second.now third.now }
 {
-    first
-        .iter()
-        .zip(second)
-        .zip(third)
-        .map(|((a, b), c)| odd(*a, *b, *c))
-        .sum()
+    // Stays by place: through `zip` of the three it was half as much again for the processor.
+    let mut odds = 0;
+    for (place, octet) in first.iter().enumerate() {
+        odds += odd(*octet, second[place], third[place]);
+    }
+    odds
 }
 
 impl<'a> Thirds<'a> {
