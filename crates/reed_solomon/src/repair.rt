@@ -40,7 +40,7 @@ impl<F: Field> Received<'_, F> {
         message: &mut [u8],
     ) -> Option<usize>
         requires places { Places (length self.now.octets.now) (places_of terms.old) }
-        requires few { length terms.old ≤ 16 }
+        requires few { length terms.old ≤ 8 }
         requires front { length message.old ≤ length self.now.octets.now }
         ensures places { places_of terms.new ≡ places_of terms.old }
         ensures values { Valued F.Field.field (length self.now.octets.now) syndromes.old (places_of terms.old) (values_of terms.new) }

@@ -20,6 +20,6 @@ pub(crate) struct Pattern<'a, F: Field> {
     pub(crate) word: usize,
     pub(crate) terms: &'a [Term],
     ghost fits: { word < F.Field.field.size },
-    ghost few: { length terms.now ≤ 16 },
+    ghost few: { length terms.now ≤ 8 },
     ghost places: { Places word (places_of terms.now) },
 }

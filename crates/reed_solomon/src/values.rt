@@ -4,11 +4,11 @@ ghost use Rattle.rs_algebra.specs.Polynomials.{Elements, times_root, zeros};
 ghost use Rattle.rs_algebra.specs.Words.{Missing, Places, ValueFor};
 ghost use Rattle.reed_solomon.specs.Repairs.{Valued, places_of, values_of};
 
+use crate::bounds::MOST_REPAIRS;
 use crate::linear::weighed_sum;
 use crate::places::{low_value, place_locator};
 use crate::received::Received;
 use crate::terms::{Pattern, Term};
-use coder::sizes::MOST_CHECK;
 use field::Field;
 use std::marker::PhantomData;
 
@@ -17,7 +17,7 @@ impl<F: Field> Received<'_, F> {
     // Sets the values that an error with these syndromes has if it is nowhere but at the terms' places of the word.
     pub(crate) fn error_values(&self, syndromes: &[u8], terms: &mut [Term])
         requires places { Places (length self.now.octets.now) (places_of terms.old) }
-        requires most { length terms.old ≤ 16 }
+        requires most { length terms.old ≤ 8 }
         ensures places { places_of terms.new ≡ places_of terms.old }
         ensures values { Valued F.Field.field (length self.now.octets.now) syndromes.now (places_of terms.old) (values_of terms.new) }
         ensures elements { Elements F.Field.field (values_of terms.new) }
@@ -42,7 +42,7 @@ impl<F: Field> Pattern<'_, F> {
         ensures { ValueFor F.Field.field self.now.word (λ j. slice_index syndromes.now j) (places_of self.now.terms.now) place result }
     {
         // Stays a room of fixed length: nothing here allocates, and no crate is used but std.
-        let mut room = [0; MOST_CHECK];
+        let mut room = [0; MOST_REPAIRS];
         let polynomial = &mut room[..self.terms.len()];
         self.vanishing_elsewhere(place, polynomial);
         let here = low_value::<F>(polynomial, place_locator::<F>(self.word, place as usize));
