@@ -1,11 +1,12 @@
 -- The product by D + a in place. Assumes nothing.
-use Rattle.std.proofs.Common.{◌≡◌, ℕ, zero, suc, ◌+◌, ◌-◌, ◌<◌, List, [], ◌∷◌, ◌++◌, length, set, sym, ap, ◌∙◌, ap₂, arith}
+use Rattle.std.proofs.Common.{◌≡◌, ℕ, suc, ◌+◌, ◌-◌, ◌<◌, ◌≤◌, List, [], ◌∷◌, ◌++◌, length, take, sym, ap, ◌∙◌, ap₂, arith}
 use lib.Bits.{bit_xor, xor_comm, xor_zero_r}
+use Rattle.std.proofs.lemmas.List.{length-append, take_at}
 use Rattle.field.specs.Field.{Field, Laws, power}
 use Rattle.field.proofs.Facts.{times_zero, times_one}
 use Rattle.rs_algebra.specs.Polynomials.{Elements, zeros, plus, scaled, product, generator}
 use Rattle.rs_algebra.proofs.Lists.{zeros_long, plus_padded, plus-zeros}
-use Rattle.rs_algebra.proofs.Division.{generator_elements}
+use Rattle.rs_algebra.proofs.Division.{generator_long, generator_elements}
 use Rattle.rs_algebra.proofs.Polynomials.{product_long}
 use Rattle.reed_solomon.proofs.Carries.{carried, carried-zeros}
 
@@ -48,11 +49,10 @@ module _ (f : Field) (laws : Laws f) where
       makes (generator f i) (n - (i + 1)) (generator_elements f laws i) (is ∙ ap (λ k. generator f i ++ zeros k) room)
       ∙ ap (λ k. generator f k ++ zeros (n - (i + 1))) one
 
-  -- before the first root, in a list of zeros
-  pub no_root : (n : ℕ) (held : List ℕ) → 0 < n → held ≡ zeros n → set held 0 1 ≡ generator f 0 ++ zeros (length (set held 0 1) - 1 - 0)
-  unfolding generator
-  no_root zero held some is = absurd (omega arith)
-  no_root (suc n) held some is =
-      rw is
-      (let long : n ≡ length (1 ∷ zeros n) - 1 - 0 = omega (arith, zeros_long n) in
-      ap (λ k. 1 ∷ zeros k) long)
+  -- a list of n + 1 numbers that holds the generator of i roots
+  pub room_for : (n i : ℕ) → i ≤ n → length (generator f i ++ zeros (n - i)) ≡ n + 1
+  room_for n i h =
+      omega (arith, length-append (generator f i) (zeros (n - i)), generator_long f laws i, zeros_long (n - i))
+
+  pub generator-front : (n i : ℕ) (held : List ℕ) → held ≡ generator f i ++ zeros (n - i) → take (i + 1) held ≡ generator f i
+  generator-front n i held is = ap (take (i + 1)) is ∙ take_at (generator f i) (zeros (n - i)) (i + 1) (generator_long f laws i)

@@ -1,8 +1,9 @@
 // The generator polynomial, whose roots are the first powers of alpha.
-ghost use Rattle.std.specs.Prelude.{◌≡◌, ℕ, ◌+◌, ◌-◌, ◌<◌, ◌≤◌, List, [], ◌∷◌, ◌++◌, length};
+ghost use Rattle.std.specs.Prelude.{◌≡◌, ℕ, ◌+◌, ◌≤◌, List, [], ◌∷◌, ◌++◌, take};
 ghost use Rattle.field.specs.Field.{power};
 ghost use Rattle.rs_algebra.specs.Polynomials.{Elements, zeros, product, generator};
 
+use crate::bounds::MOST_COEFFICIENTS;
 use field::Field;
 
 // Multiplies by D + root, in place: highest power first, with room behind the last coefficient.
@@ -25,15 +26,16 @@ fn root<F: Field>(i: u8) -> u8
     F::power(i)
 }
 
-// Writes the generator polynomial of as many roots as the list has room for, highest power first.
-pub(crate) fn generator_polynomial<F: Field>(polynomial: &mut [u8])
-    requires some { 0 < length polynomial.old }
-    requires most { length polynomial.old ≤ 17 }
-    ensures { polynomial.new ≡ generator F.Field.field (length polynomial.old - 1) }
+// Highest power first, in the first `check` + 1 places.
+pub(crate) fn generator_polynomial<F: Field>(check: usize) -> [u8; MOST_COEFFICIENTS]
+    requires { check ≤ 16 }
+    ensures { take (check + 1) result ≡ generator F.Field.field check }
 {
-    polynomial.fill(0);
+    // Stays a room of fixed length: nothing here allocates, and a slice of the length that is needed took twice as long.
+    let mut polynomial = [0; MOST_COEFFICIENTS];
     polynomial[0] = 1;
-    for i in 0..(polynomial.len() - 1) as u8 {
-        add_root::<F>(polynomial, root::<F>(i));
+    for i in 0..check as u8 {
+        add_root::<F>(&mut polynomial, root::<F>(i));
     }
+    polynomial
 }

@@ -24,12 +24,10 @@ pub(crate) fn remainder<F: Field>(message: &[u8], out: &mut [u8])
     requires { length out.old ≤ 16 }
     ensures { out.new ≡ check_of F.Field.field (length out.old) message.now }
 {
-    // Stays two rooms of fixed length: nothing here allocates, and no crate is used but std.
-    let mut coefficients = [0; MOST_COEFFICIENTS];
+    let coefficients = generator_polynomial::<F>(out.len());
+    let polynomial = &coefficients[..=out.len()];
+    // Stays a room of fixed length: nothing here allocates, and no crate is used but std.
     let mut room = [0; MOST_COEFFICIENTS];
-    let polynomial = &mut coefficients[..=out.len()];
-    generator_polynomial::<F>(polynomial);
-    let polynomial: &[u8] = polynomial;
     let register = &mut room[..=out.len()];
     for octet in message {
         feed::<F>(polynomial, register, *octet);

@@ -4,7 +4,6 @@ ghost use Rattle.field.specs.Binary.{octets};
 ghost use Rattle.rs_algebra.specs.Polynomials.{scaled};
 ghost use Rattle.reed_solomon.specs.Rows.{packed, RowsOf};
 
-use crate::bounds::MOST_COEFFICIENTS;
 use crate::generator::generator_polynomial;
 use field::{Field, Table};
 use std::array;
@@ -31,10 +30,8 @@ pub(crate) fn all_rows(check: usize) -> [u128; 256]
     requires { check ≤ 16 }
     ensures { RowsOf check result }
 {
-    // Stays a room of fixed length: nothing here allocates, and no crate is used but std.
-    let mut room = [0; MOST_COEFFICIENTS];
-    let polynomial = &mut room[..=check];
-    generator_polynomial::<Table>(polynomial);
+    let room = generator_polynomial::<Table>(check);
+    let polynomial = &room[..=check];
     let coefficients = &polynomial[1..];
     array::from_fn(|factor| row(coefficients, factor as u8))
 }

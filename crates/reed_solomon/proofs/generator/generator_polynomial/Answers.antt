@@ -1,17 +1,31 @@
-use Rattle.std.proofs.Common.{ℕ, ◌-◌, [], ◌∷◌, ◌++◌, length, set, ap, ◌∙◌, arith}
-use Rattle.rs_algebra.specs.Polynomials.{zeros, product}
-use Rattle.reed_solomon.proofs.Generators.{no_root, next_root}
+use Rattle.std.proofs.Common.{◌≡◌, ℕ, ◌-◌, [], ◌∷◌, ◌++◌, length, sym, refl, ap, ◌∙◌, arith}
+use Rattle.rs_algebra.specs.Polynomials.{zeros, product, generator}
+use Rattle.reed_solomon.proofs.Generators.{next_root, room_for, generator-front}
 use Rattle.reed_solomon.proofs.generator.generator_polynomial.Goals as goal
 
 pub loop-i-init : goal.loop-i-init
-loop-i-init g c =
-    (omega arith, no_root g.F.Field.field g.met.F.Field.laws (length c.args.polynomial.now) c.fill.new.self c.requires.some (c.fill.ensures.after (λ y e. e)))
+unfolding generator
+loop-i-init g c = (omega arith, refl)
+
+pub slice_bounds-add_root-end : goal.slice_bounds-add_root-end
+slice_bounds-add_root-end g c =
+    let inv = c.loop-i.invariant in
+    sym (ap length inv.1 ∙ room_for g.F.Field.field g.met.F.Field.laws 16 c.loop-i.i inv.0)
 
 pub loop-i-preserved : goal.loop-i-preserved
 loop-i-preserved g c =
+    let f = g.F.Field.field in
     let i : ℕ = c.loop-i.i in (
-      omega arith,
-      next_root g.F.Field.field g.met.F.Field.laws (length (set c.fill.new.self 0 1) - 1) i c.loop-i.polynomial c.add_root.new.polynomial (omega arith)
-          c.loop-i.invariant.1
-          (λ p r e is. c.add_root.ensures p r e is ∙ ap (λ a. product g.F.Field.field p (1 ∷ a ∷ []) ++ zeros r) c.root.ensures),
+      omega (arith, c.requires),
+      next_root f g.met.F.Field.laws 16 i c.loop-i.polynomial c.add_root.new.polynomial (omega (arith, c.requires)) c.loop-i.invariant.1
+          (λ p r e is. c.add_root.ensures p r e is ∙ ap (λ a. product f p (1 ∷ a ∷ []) ++ zeros r) c.root.ensures),
     )
+
+pub returns : goal.returns
+returns g c =
+    let f = g.F.Field.field in
+    let i : ℕ = c.loop-i.i in
+    let last : c.args.check ≡ i = omega (arith, c.loop-i.auto.i-end, c.loop-i-test.false) in
+    let at : c.loop-i.polynomial ≡ generator f c.args.check ++ zeros (16 - c.args.check)
+    = rw last c.loop-i.invariant.1 in
+    generator-front f g.met.F.Field.laws 16 c.args.check c.loop-i.polynomial at
