@@ -1,12 +1,14 @@
 -- The register as one number, and the rows that feed it. Assumes nothing.
-use Rattle.std.proofs.Common.{◌≡◌, ℕ, suc, ◌+◌, ◌*◌, ◌/◌, ◌^◌, ◌<◌, ◌≤◌, List, [], ◌∷◌, ◌++◌, length, get_or, drop, sym, refl, ap, ◌∙◌, ap₂, fold, reverse, arith}
+use Rattle.std.proofs.Common.{◌≡◌, ℕ, suc, ◌+◌, ◌*◌, ◌/◌, ◌%◌, ◌^◌, ◌<◌, ◌≤◌, ◌⊎◌, List, [], ◌∷◌, ◌++◌, length, get_or, drop, set, sym, refl, ap, ◌∙◌, ap₂, inl, inr, fold, reverse, arith}
 use lib.Bits.{bit_xor, xor_comm, xor_lt}
+use Rattle.std.proofs.lemmas.List.{drop-drop, get_or-drop, get_or-set_other, get_or-set_same, length-drop, length-set}
+use Rattle.std.proofs.lemmas.Bool.{cases_lt}
 use Rattle.coder.specs.Codes.{Octets}
 use Rattle.field.specs.Binary.{octets}
 use Rattle.field.specs.Octets.{octet_laws}
 use Rattle.rs_algebra.specs.Polynomials.{zeros, scaled, generator}
 use Rattle.rs_algebra.specs.Words.{register_step, register, check_of}
-use Rattle.rs_algebra.proofs.Lists.{zeros_long, zeros_elements, scaled_elements, append_elements, drop_elements}
+use Rattle.rs_algebra.proofs.Lists.{same_reads, zeros_long, zeros_elements, scaled_elements, append_elements, drop_elements}
 use Rattle.rs_algebra.proofs.Division.{lower_long}
 use Rattle.rs_algebra.proofs.Registers.{step_long, step_elements, check_register}
 use Rattle.reed_solomon.specs.Rows.{packed, RowsOf, fed_back}
@@ -56,3 +58,44 @@ row_folded factor =
     fold-reverse (λ row c. octets.times factor c * 2 ^ 120 + row / 256) 0 (λ p. packed 16 (scaled octets factor p)) refl
     (λ c p. ap (λ r. octets.times factor c * 2 ^ 120 + r)
     (sym (packed_down 15 (scaled octets factor p) (scaled_elements octets octet_laws factor p))))
+
+-- the first i octets of a number are written, and the others are left
+abbrev pub Unpacked : (whole i left : ℕ) (held : List ℕ) → Type 0
+Unpacked whole i left held =
+    (xs : List ℕ) → Octets xs → length xs ≤ 16 → length xs ≡ length held → whole ≡ packed 16 xs
+    → (left ≡ packed 16 (drop i xs)) × ((k : ℕ) → k < i → get_or held k 0 ≡ get_or xs k 0)
+
+pub none_unpacked : (whole : ℕ) (held : List ℕ) → Unpacked whole 0 whole held
+none_unpacked whole held xs o few long is = (is, λ k h. absurd (omega arith))
+
+pub one_unpacked : (whole i left v : ℕ) (held : List ℕ) → i < length held → v ≡ left / 2 ^ 120 → Unpacked whole i left held
+    → Unpacked whole (i + 1) (left * 2 ^ 8 % 2 ^ 128) (set held i v)
+one_unpacked whole i left v held inside top so xs o few long is = (moved, λ k h. reads k h (cases_lt k i))
+  where
+    before : (left ≡ packed 16 (drop i xs)) × ((k : ℕ) → k < i → get_or held k 0 ≡ get_or xs k 0)
+    before = so xs o few (long ∙ length-set held i v) is
+
+    octets-left : Octets (drop i xs)
+    octets-left = drop_elements octets octet_laws i xs o
+
+    moved : left * 2 ^ 8 % 2 ^ 128 ≡ packed 16 (drop (i + 1) xs)
+    moved =
+        ap (λ n. n * 2 ^ 8 % 2 ^ 128) before.0
+        ∙ packed_up 15 (drop i xs) octets-left (omega (arith, length-drop i xs))
+        ∙ ap (packed 16) (drop-drop 1 i xs)
+
+    first : v ≡ get_or xs i 0
+    first =
+        let e : i + 0 ≡ i = omega arith in
+        top ∙ ap (λ n. n / 2 ^ 120) before.0 ∙ packed_top 15 (drop i xs) octets-left ∙ get_or-drop i xs 0 0 ∙ ap (λ j. get_or xs j 0) e
+
+    reads : (k : ℕ) → k < i + 1 → (k < i) ⊎ (i ≤ k) → get_or (set held i v) k 0 ≡ get_or xs k 0
+    reads k h (inl lower) = get_or-set_other held i k v 0 (omega arith) ∙ before.1 k lower
+    reads k h (inr at) =
+        let e : k ≡ i = omega arith in
+        ap (λ j. get_or (set held i v) j 0) e ∙ get_or-set_same held i v 0 inside ∙ first ∙ ap (λ j. get_or xs j 0) (sym e)
+
+pub all_unpacked : (whole i left : ℕ) (held : List ℕ) → length held ≤ i → Unpacked whole i left held
+    → (xs : List ℕ) → Octets xs → length xs ≤ 16 → length xs ≡ length held → whole ≡ packed 16 xs → held ≡ xs
+all_unpacked whole i left held all so xs o few long is =
+    same_reads held xs (sym long) (λ k h. (so xs o few long is).1 k (omega arith))

@@ -1,5 +1,6 @@
 // The check octets of a message, by a register that is one number: its first octet is the highest.
-ghost use Rattle.std.specs.Prelude.{◌≡◌, ◌/◌, ◌^◌, bit_xor};
+ghost use Rattle.std.specs.Prelude.{◌≡◌, ℕ, ◌/◌, ◌^◌, ◌≤◌, List, length, bit_xor};
+ghost use Rattle.coder.specs.Codes.{Octets};
 ghost use Rattle.field.specs.Binary.{octets};
 ghost use Rattle.rs_algebra.specs.Words.{check_of};
 ghost use Rattle.reed_solomon.specs.Rows.{packed, fed_back};
@@ -9,11 +10,30 @@ use crate::reed_solomon::ReedSolomon;
 use crate::rows::row_coder::RowCoder;
 use field::Table;
 
-// What moves out of the register, its highest octet, with an octet of the message added.
+// The highest octet.
+fn top(register: u128) -> u8
+    ensures { result ≡ register / 2 ^ 120 }
+{
+    (register >> 120) as u8
+}
+
+// What moves out of the register, with an octet of the message added.
 fn feedback(register: u128, octet: u8) -> u8
     ensures { result ≡ bit_xor (register / 2 ^ 120) octet }
 {
-    (register >> 120) as u8 ^ octet
+    top(register) ^ octet
+}
+
+// Writes as many octets as there is room for, from the highest down.
+// Stays a loop: all 16 octets by `to_be_bytes` and a copy of some took short words twice as long.
+fn unpack(register: u128, out: &mut [u8])
+    ensures { (xs : List ℕ) → Octets xs → length xs ≤ 16 → length xs ≡ length out.old → register ≡ packed 16 xs → out.new ≡ xs }
+{
+    let mut left = register;
+    for octet in out.iter_mut() {
+        *octet = top(left);
+        left <<= 8;
+    }
 }
 
 impl RowCoder {
@@ -45,7 +65,6 @@ impl Checks for RowCoder {
     }
 
     fn check_octets(&self, message: &[u8], out: &mut [u8]) {
-        let register = self.register_of(message);
-        out.copy_from_slice(&register.to_be_bytes()[..out.len()]);
+        unpack(self.register_of(message), out);
     }
 }
